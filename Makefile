@@ -1,8 +1,12 @@
-# `make` proves and builds the program shamir. It proves as many libraries side by side as the machine can, so it needs no -j.
+# `make` proves and builds the program shamir. It proves as many libraries side by side as the machine can, so it needs no -j. It leaves
+# ./shamir-papers too, which needs the library of `make lib` or of `make try`.
 # `make test` runs all checks, and `make quick` those that a change concerns. The other targets are:
 #
 #   make try         needs no kit: it compiles dist/c, and drills a backup with it. It leaves ./shamir-papers, which runs over it
 #   make lib         proves and builds the library: libshamir.a and libshamir.so. It leaves ./shamir-papers, which runs over it
+#   make TARGET=aarch64-linux-gnu, make lib TARGET=aarch64-linux-gnu   build the program and the library for arm64, with the same
+#                    proofs, into out/aarch64-linux-gnu. They need the cross compiler aarch64-linux-gnu-gcc. `make wheel` and
+#                    `make deb` with this TARGET build the packages for arm64
 #   make prove-NAME  proves a library of crates/, after those that it uses
 #   make test-NAME   proves and runs the tests of a library, after the libraries that it uses
 #   make edits       tries the wrong bodies of wrong-bodies/ in rounds, as `make test` does
@@ -11,16 +15,20 @@
 #                    32-bit memory
 #   make portable    makes dist/c, the library as one file of C, from shamir32.wasm
 #   make page        builds shamir.html, the page with the library in it
-#   make checks      runs all checks below, side by side: as many as there are processors, and as many as get 3 GB of memory each,
-#                    or as -j says. Each tool runs in a target of its own, such as check-recipes, which runs alone too
+#   make checks      runs all checks below except check-portable, check-arm64 and check-alone, side by side: as many as there are
+#                    processors, and as many as get 3 GB of memory each, or as -j says. Each tool runs in a target of its own, such as
+#                    check-recipes, which runs alone too
 #   make check       runs the fast checks. They cover the documents, examples of doc comments, manual pages, completions,
 #                    terminals, values from files, refused allocations, the library and the packages
 #   make check-library   checks the library alone: its header, examples in C, the Python binding, the cuts of a drill, generated
 #                    cases, and the vectors; and the JavaScript package and the Rust crate
-#   make check-page  checks shamir.html in Chromium and in Firefox: each task by keyboard, each refusal, what the browser keeps
+#   make check-page  checks shamir.html in Chromium and in Firefox: each task by keyboard, each refusal, what the browser keeps; and
+#                    its tasks in WebKit
 #   make check-papers  checks shamir-papers in terminals: each task, each wrong answer, what the terminal and the memory keep
 #   make check-portable  checks dist/c, the library as one file of C: on x86-64 with each compiler, for other processors with
 #                    emulators, and for Windows with wine
+#   make check-arm64  checks with an emulator what is built for arm64: it compares the library with libshamir.so, the program with
+#                    a plain reading of the standard in Python, and the packages with those for x86-64
 #   make check-js    checks the JavaScript package alone: its types, and its tests with both forms of the library
 #   make check-secrets   looks with valgrind for branches and addresses of the library that depend on secrets, and for secrets that
 #                    its calls leave on the stack, and that the program leaves in its memory
@@ -40,10 +48,12 @@
 #                    shamir-papers
 #   make check-packages  installs, runs and uninstalls what `make install`, `make wheel` and `make deb` make, and unpacks an
 #                    archive of the sources, such as `make dist` makes
-#   make release     writes dist/, which holds what needs no build: the page and the library as plain C
+#   make release     writes dist/, which holds what needs no build: the page, the library as plain C and the module for JavaScript
 #   make check-dist  makes the files of dist/ anew, and compares them byte for byte
-#   make dist        packs the committed sources, builds the page, and writes the sha256 of both and what they were made with.
-#                    The same commit and tools give the same bytes
+#   make check-alone  uses the page and the packages where the kit, the repository and the network are hidden. It needs root's rights
+#   make dist        builds and packs all that a release gives into the folder shamir-VERSION: the committed sources, the page, dist/,
+#                    the packages, their sha256, and notes. The same commit and tools give the same bytes. What is built for arm64
+#                    is packed too
 #   make clean       removes what these targets build, and what checks kept in crates/*/out
 RT ?= rt
 PYTHON ?= python3
@@ -62,6 +72,8 @@ PYTHONDIR ?= $(PREFIX)/share/shamir/python
 BASHDIR ?= $(PREFIX)/share/bash-completion/completions
 ZSHDIR ?= $(PREFIX)/share/zsh/site-functions
 FISHDIR ?= $(PREFIX)/share/fish/vendor_completions.d
+# tools/deb takes the program and the library from another folder.
+BUILT = .
 VERSION = 1.0.0
 # The number in this name increases whenever a program linked against an earlier version would break. It is also the first
 # number of VERSION.
@@ -79,6 +91,8 @@ LOGIC = dac8208d650f15bf
 TELL_OF_KIT = @command -v $(RT) > /dev/null || { echo "make: $(RT) of the kit isn't on the path, so nothing can be proved or built (README.md says what the kit is); without it, 'make try' works, and dist/shamir.html opens in a browser" >&2; exit 1; }; \
 	found=$$($(RT) version 2> /dev/null) || found="no version"; case "$$found" in *" logic $(LOGIC)") ;; \
 	*) echo "make: 'rt version' says '$$found', and README.md names a kit with logic $(LOGIC)" >&2 ;; esac
+# Without the cross compiler, a target for arm64 says so before it proves anything.
+TELL_OF_COMPILER = @command -v $(CROSS_TARGET)-gcc > /dev/null || { echo "make: $(CROSS_TARGET)-gcc isn't here, so nothing can be built for arm64 (Debian: gcc-aarch64-linux-gnu)" >&2; exit 1; }
 # These crates are programs for measurements and checks.
 TOOLS = s39_bench s39_allocations s39_timing
 # The crate of the program is the only other one with a main.
@@ -103,7 +117,27 @@ TIMING = crates/s39_timing/out/timing
 
 .PHONY: all lib wasm portable page test quick edits twins check check-library check-js check-page check-papers check-packages check-secrets bench faults compare try install install-bin install-lib install-page install-papers uninstall wheel deb release dist clean
 
-all: shamir
+# With TARGET on the command line, these targets build for another processor.
+CROSS_TARGET = aarch64-linux-gnu
+CROSS = out/$(CROSS_TARGET)
+ifeq ($(origin TARGET),command line)
+ifneq ($(TARGET),$(CROSS_TARGET))
+$(error TARGET can be $(CROSS_TARGET), and nothing else; without TARGET, make builds for this processor)
+endif
+ifneq ($(filter-out all lib wheel deb prove-%,$(MAKECMDGOALS)),)
+$(error with TARGET, make knows the targets 'all', 'lib', 'wheel' and 'deb' alone, and not '$(filter-out all lib wheel deb prove-%,$(MAKECMDGOALS))')
+endif
+all: $(CROSS)/shamir
+lib wheel: $(CROSS)/$(SONAME)
+deb: $(CROSS)/shamir $(CROSS)/$(SONAME) shamir.html
+FOR_TARGET = --target $(CROSS_TARGET)
+else
+all: shamir shamir-papers
+lib: libshamir.so $(SONAME) shamir-papers
+wheel: libshamir.so
+deb: shamir libshamir.so shamir.html
+FOR_TARGET =
+endif
 
 # Proves the libraries, proves and builds the program, and runs `show` once on the input stored in its crate.
 shamir: $(SOURCES)
@@ -112,8 +146,6 @@ shamir: $(SOURCES)
 	cd crates/$(PROGRAM) && $(RT) run --cpu=$(CPU) -- show < stdin > /dev/null
 	cp crates/$(PROGRAM)/out/$(PROGRAM) $@
 
-lib: libshamir.so $(SONAME) shamir-papers
-
 # Proves every crate that the library uses, and builds the archive.
 libshamir.a: $(SOURCES)
 	$(TELL_OF_KIT)
@@ -121,15 +153,32 @@ libshamir.a: $(SOURCES)
 	cd crates/s39_c && $(RT) lib --cpu=$(CPU) > /dev/null
 	cp crates/s39_c/out/libs39_c.a $@
 
+SHARED = -shared -Wl,-soname,$(SONAME),--version-script,packaging/libshamir.map,-z,defs,-z,relro,-z,now
+
 libshamir.so: libshamir.a packaging/libshamir.map
-	$(CC) $(CFLAGS) $(LDFLAGS) -shared -Wl,-soname,$(SONAME),--version-script,packaging/libshamir.map,-z,defs,-z,relro,-z,now \
-		-o $@ -Wl,--whole-archive libshamir.a -Wl,--no-whole-archive
+	$(CC) $(CFLAGS) $(LDFLAGS) $(SHARED) -o $@ -Wl,--whole-archive libshamir.a -Wl,--no-whole-archive
 	cp $@ bindings/python/shamir/libshamir.so
 	cp NOTICE bindings/python/NOTICE
 
 # Runs from this folder, over libshamir.so, or else over what `make try` compiled.
 shamir-papers: packaging/shamir-papers
 	cp $< $@
+
+$(CROSS)/shamir: $(SOURCES) packaging/arm64/kit.c
+	$(TELL_OF_KIT)
+	$(TELL_OF_COMPILER)
+	@$(MAKE) $(SIDE_BY_SIDE) $(addprefix prove-,$(LIBRARIES))
+	@RT=$(RT) tools/cross $(CROSS_TARGET) program
+
+$(CROSS)/libshamir.a: $(SOURCES)
+	$(TELL_OF_KIT)
+	$(TELL_OF_COMPILER)
+	@$(MAKE) $(SIDE_BY_SIDE) $(addprefix prove-,$(call uses,s39_c))
+	@RT=$(RT) tools/cross $(CROSS_TARGET) library
+
+$(CROSS)/$(SONAME): $(CROSS)/libshamir.a packaging/libshamir.map
+	$(CROSS_TARGET)-gcc $(SHARED) -o $(CROSS)/libshamir.so -Wl,--whole-archive $< -Wl,--no-whole-archive
+	ln -sf libshamir.so $@
 
 try: shamir-papers
 	@$(PYTHON) tools/try
@@ -139,15 +188,19 @@ $(SONAME): libshamir.so
 	ln -sf libshamir.so $@
 
 test:
+	$(TELL_OF_KIT)
 	@RT=$(RT) tools/gate
 
 quick:
+	$(TELL_OF_KIT)
 	@RT=$(RT) tools/quick
 
 edits:
+	$(TELL_OF_KIT)
 	@RT=$(RT) tools/edits
 
 twins:
+	$(TELL_OF_KIT)
 	@RT=$(RT) tools/edits --twins
 
 # Each sum of checks first builds what its checks need. Then it runs them side by side: as many as JOBS says, or as many as -j says.
@@ -155,8 +208,8 @@ twins:
 LIBRARY_CHECKS = check-rust check-header check-vectors check-cuts check-js
 PACKAGES_CHECKS = check-debs check-installed
 SECRETS_CHECKS = check-leftovers check-timing
-PAGE_PARTS = privacy refusals tasks entry looks astray hasty long agreement ways
-PAGE_CHECKS = $(foreach part,$(PAGE_PARTS),check-page-firefox-$(part) check-page-chromium-$(part)) check-page-sources
+PAGE_PARTS = privacy change refusals tasks journey entry looks astray hasty long agreement ways
+PAGE_CHECKS = $(foreach part,$(PAGE_PARTS),check-page-firefox-$(part) check-page-chromium-$(part)) check-page-sources check-page-webkit
 CHECKS = $(LIBRARY_CHECKS) $(PACKAGES_CHECKS) check-allocations check-terminal check-recipes check-completions check-values check-command check-dist \
 	check-examples check-texts check-figures check-manual check-version
 LONGEST = check-page-firefox-privacy check-page-chromium-privacy check-header check-rust check-leftovers check-papers check-vectors $(PACKAGES_CHECKS)
@@ -165,7 +218,7 @@ PART = @$(PYTHON) tools/part $@
 WASM_OPT := $(shell command -v wasm-opt 2> /dev/null)
 PAGE = $(if $(WASM_OPT),shamir.html)
 
-.PHONY: checks check-secrets check-portable $(CHECKS) $(SECRETS_CHECKS) $(PAGE_CHECKS)
+.PHONY: checks check-secrets check-portable check-arm64 check-alone $(CHECKS) $(SECRETS_CHECKS) $(PAGE_CHECKS)
 
 checks: shamir libshamir.so $(SONAME) $(TIMING) shamir.wasm $(PAGE)
 	@$(MAKE) $(SIDE_BY_SIDE) $(LONGEST) $(PAGE_CHECKS) $(SECRETS_CHECKS) check-papers $(CHECKS)
@@ -215,6 +268,10 @@ check-completions: shamir libshamir.so
 check-terminal: shamir
 	$(PART) tools/terminal
 
+# It makes no library: whoever has dist/ needs no kit.
+check-alone:
+	$(PART) $(PYTHON) tools/alone
+
 check-command: shamir libshamir.so
 	$(PART) $(PYTHON) tools/command
 
@@ -244,6 +301,10 @@ check-rust: libshamir.so
 check-portable: libshamir.so $(if $(WASM_OPT),shamir32.wasm)
 	$(PART) $(PYTHON) tools/check_portable
 
+# Without a cross compiler nothing is built for arm64, and the check says so.
+check-arm64: shamir libshamir.so $(PAGE) $(if $(shell command -v $(CROSS_TARGET)-gcc 2> /dev/null),$(CROSS)/shamir $(CROSS)/$(SONAME))
+	$(PART) $(PYTHON) tools/check_arm64
+
 check-js: shamir.wasm $(PAGE)
 	$(PART) tools/javascript
 
@@ -259,11 +320,14 @@ check-timing: libshamir.a $(TIMING)
 check-leftovers: shamir libshamir.a
 	$(PART) $(PYTHON) tools/leftovers
 
-$(filter-out %-sources,$(PAGE_CHECKS)): check-page-%: shamir $(PAGE)
+$(filter-out %-sources %-webkit,$(PAGE_CHECKS)): check-page-%: shamir $(PAGE)
 	$(PART) $(PYTHON) tools/check_page --no-pictures --browser $(subst -, ,$*)
 
 check-page-sources:
 	$(PART) $(PYTHON) tools/check_page sources
+
+check-page-webkit: shamir $(PAGE)
+	$(PART) $(PYTHON) tools/check_page --no-pictures webkit
 
 check-papers: shamir libshamir.so
 	$(PART) $(PYTHON) tools/check_papers
@@ -279,7 +343,7 @@ faults: shamir
 
 compare: shamir libshamir.so shamir32.wasm shamir.html
 	@tools/compare
-	@tools/repairs
+	@tools/library --kinds repair --cases 10000
 	@tools/command --lines 5000
 	@tools/module
 	@$(PYTHON) tools/check_page --cases 200 agreement
@@ -295,10 +359,10 @@ install:
 	@$(MAKE) install-bin install-lib install-page install-papers
 
 install-bin:
-	@test -f shamir || { echo "make install-bin: ./shamir isn't here: 'make' proves and builds it" >&2; exit 1; }
+	@test -f $(BUILT)/shamir || { echo "make install-bin: $(BUILT)/shamir isn't here: 'make' proves and builds it" >&2; exit 1; }
 	$(INSTALL) -d "$(DESTDIR)$(BINDIR)" "$(DESTDIR)$(MANDIR)/man1" "$(DESTDIR)$(BASHDIR)" "$(DESTDIR)$(ZSHDIR)" "$(DESTDIR)$(FISHDIR)" \
 		"$(DESTDIR)$(DOCDIR)/docs" "$(DESTDIR)$(DOCDIR)/examples"
-	$(INSTALL) -m $(BINMODE) shamir "$(DESTDIR)$(BINDIR)/shamir"
+	$(INSTALL) -m $(BINMODE) $(BUILT)/shamir "$(DESTDIR)$(BINDIR)/shamir"
 	$(INSTALL) -m 644 man/shamir.1 "$(DESTDIR)$(MANDIR)/man1/shamir.1"
 	$(INSTALL) -m 644 completions/shamir.bash "$(DESTDIR)$(BASHDIR)/shamir"
 	$(INSTALL) -m 644 completions/_shamir "$(DESTDIR)$(ZSHDIR)/_shamir"
@@ -309,11 +373,11 @@ install-bin:
 
 install-lib:
 	@for file in libshamir.a libshamir.so; do \
-	test -f $$file || { echo "make install-lib: ./$$file isn't here: 'make lib' proves and builds it" >&2; exit 1; }; done
+	test -f $(BUILT)/$$file || { echo "make install-lib: $(BUILT)/$$file isn't here: 'make lib' proves and builds it" >&2; exit 1; }; done
 	$(INSTALL) -d "$(DESTDIR)$(LIBDIR)/pkgconfig" "$(DESTDIR)$(INCLUDEDIR)" "$(DESTDIR)$(MANDIR)/man3" "$(DESTDIR)$(DOCDIR)/docs" \
 		"$(DESTDIR)$(DOCDIR)/examples/c"
-	$(INSTALL) -m 644 libshamir.a "$(DESTDIR)$(LIBDIR)/libshamir.a"
-	$(INSTALL) -m 644 libshamir.so "$(DESTDIR)$(LIBDIR)/libshamir.so.$(VERSION)"
+	$(INSTALL) -m 644 $(BUILT)/libshamir.a "$(DESTDIR)$(LIBDIR)/libshamir.a"
+	$(INSTALL) -m 644 $(BUILT)/libshamir.so "$(DESTDIR)$(LIBDIR)/libshamir.so.$(VERSION)"
 	ln -sf libshamir.so.$(VERSION) "$(DESTDIR)$(LIBDIR)/$(SONAME)"
 	ln -sf $(SONAME) "$(DESTDIR)$(LIBDIR)/libshamir.so"
 	$(INSTALL) -m 644 include/shamir.h "$(DESTDIR)$(INCLUDEDIR)/shamir.h"
@@ -361,11 +425,11 @@ uninstall:
 	cd "$(DESTDIR)$(DOCDIR)" && rm -f $(DOCUMENTS) docs/*.md docs/*.png examples/*.txt examples/*.sh examples/c/*.c && \
 	rmdir examples/c examples docs "$$(pwd)" 2> /dev/null; true
 
-wheel: libshamir.so
-	$(PYTHON) tools/wheel
+wheel:
+	$(PYTHON) tools/wheel $(FOR_TARGET)
 
-deb: shamir libshamir.so shamir.html
-	tools/deb
+deb:
+	tools/deb $(FOR_TARGET)
 
 release: shamir.html
 	@$(PYTHON) tools/release
@@ -373,11 +437,8 @@ release: shamir.html
 dist:
 	@top=$$(git rev-parse --show-toplevel 2>&1); test "$$top" = "$$(pwd -P)" || \
 	{ echo "make dist: this folder isn't the top of a git checkout, so there is no commit to pack: $$top" >&2; exit 1; }
-	@rm -f shamir-$(VERSION).sha256 shamir-$(VERSION).txt
-	git -c tar.umask=0022 archive --format=tar --prefix=shamir-$(VERSION)/ --output=shamir-$(VERSION).tar HEAD
-	gzip -9nf shamir-$(VERSION).tar
-	@$(MAKE) -s shamir.html || { echo "make dist: shamir-$(VERSION).tar.gz is written, and shamir.html isn't" >&2; exit 1; }
-	@RT=$(RT) $(PYTHON) tools/notes $(VERSION)
+	@$(MAKE) -s shamir libshamir.so shamir.html $(and $(wildcard $(CROSS)/shamir),$(wildcard $(CROSS)/libshamir.so),$(CROSS)/shamir $(CROSS)/$(SONAME))
+	@RT=$(RT) $(PYTHON) tools/dist $(VERSION)
 
 wasm: shamir32.wasm
 
@@ -397,7 +458,7 @@ shamir.html: shamir32.wasm tools/page $(wildcard page/*.js page/*.html page/*.cs
 	@tools/page
 
 clean:
-	rm -rf shamir shamir-papers libshamir.a libshamir.so $(SONAME) shamir.wasm shamir32.wasm shamir.html page/out bindings/python/shamir/libshamir.so bindings/python/shamir/portable.so bindings/python/NOTICE bindings/js/shamir32.wasm bindings/js/LICENSE bindings/js/NOTICE shamir-$(VERSION).tar.gz shamir-$(VERSION).sha256 shamir-$(VERSION).txt shamir-*.whl *.deb crates/*/out
+	rm -rf shamir shamir-papers libshamir.a libshamir.so $(SONAME) shamir.wasm shamir32.wasm shamir.html page/out bindings/python/shamir/libshamir.so bindings/python/shamir/portable.so bindings/python/LICENSE bindings/python/NOTICE bindings/python/build bindings/python/shamir.egg-info bindings/js/shamir32.wasm bindings/js/LICENSE bindings/js/NOTICE shamir-$(VERSION) shamir-*.tar.gz shamir-*.whl *.deb out crates/*/out
 
 # prove-NAME proves the library NAME once those are proved that it uses. `rt` looks at the contents of all files, and proves only
 # what changed.

@@ -5,7 +5,7 @@ _shamir_papers() {
     local word=${COMP_WORDS[COMP_CWORD]} options at
     COMPREPLY=()
     case $COMP_CWORD in
-    1) options='new check recover replace repair --help --version' ;;
+    1) options='new check recover replace change repair what --help --version' ;;
     *) options='--help' ;;
     esac
     for at in $options; do

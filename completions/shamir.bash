@@ -26,17 +26,18 @@ _shamir() {
         mapfile -t COMPREPLY < <(compgen -W '0 1 2 3 4 5 6 7 8 9 10 11 12 13 14 15' -- "$word")
         return
         ;;
-    --master-secret-file | --passphrase-file)
+    --master-secret-file | --passphrase-file | --random-file)
         compopt -o default
         return
         ;;
     --master-secret | --passphrase | --after | --limit | --expect) return ;;
     esac
     case $command in
-    '') options='create show drill recover status reissue repair --help --version' ;;
+    '') options='create show drill recover status reissue repair resplit --help --version' ;;
     create) options='--master-secret --master-secret-file --passphrase --passphrase-file --exponent --extendable --help' ;;
     drill) options='--passphrase --passphrase-file --after --limit --fingerprint --expect --help' ;;
     recover) options='--passphrase --passphrase-file --fingerprint --expect --help' ;;
+    resplit) options='--random-file --help' ;;
     show | status | reissue | repair) options='--help' ;;
     *) return ;;
     esac

@@ -1,12 +1,12 @@
 """Makes lines of damaged papers: mnemonics of which words can't be read, are misread or exchanged, or are missing. Their words are
-20 to 59, with both values of the extendable flag, and some have bad padding or bad thresholds. tools/repairs and tools/compare
+20 to 59, or 110, with both values of the extendable flag, and some have bad padding or bad thresholds. tools/compare and tools/module
 use these lines.
 """
 import plain
 
 
 def made_share(rng):
-    """Returns a share with random fields, and a value of 16 to 64 bytes. Now and then its group threshold is above its count."""
+    """Returns a share with random fields, and a value of 16 to 64 bytes, or of 128. Now and then its group threshold is above its count."""
     count = rng.randint(1, 16)
     return {
         "id": rng.getrandbits(15),
@@ -17,7 +17,7 @@ def made_share(rng):
         "group_count": count,
         "member": rng.getrandbits(4),
         "member_threshold": rng.randint(1, 16),
-        "value": rng.randbytes(2 * rng.randint(8, 32)),
+        "value": rng.randbytes(2 * rng.choice([*range(8, 33), plain.MAX_SECRET_BYTES // 2])),
     }
 
 

@@ -53,6 +53,9 @@ const COMMANDS = {
   reissue([plan, names], options, lines) {
     return ended(shamir.reissue(plan, names, lines));
   },
+  resplit([plan], { random }, lines) {
+    return ended(shamir.resplit(plan, lines, { random: new Uint8Array(Buffer.from(random, "hex")) }));
+  },
 };
 
 function outcomeText({ secret, fingerprint, expected, mismatch }) {

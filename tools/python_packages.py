@@ -12,6 +12,11 @@ import tempfile
 from left_out import left_out
 
 ROOT = pathlib.Path(__file__).resolve().parent.parent
+BINDING = pathlib.Path("bindings", "python")
+# What the archive of the sources has, and where the repository has the same.
+CARRIED = {"c/shamir.c": "dist/c/shamir.c", "c/shamir.h": "dist/c/shamir.h", "shamir/papers/texts.js": "page/texts.js", "LICENSE": "LICENSE", "NOTICE": "NOTICE"}
+CARRIED |= {name: str(BINDING / name) for name in ["setup.py", "pyproject.toml", "README.md", "MANIFEST.in", "tests/test_shamir.py"]}
+CARRIED |= {name: str(BINDING / name) for name in ["shamir/__init__.py", "shamir/cuts.py", "shamir/drill_all.py", "shamir/mnemonic.py", "shamir/command/program.py", "shamir/py.typed"]}
 
 
 def interpreter():
@@ -62,30 +67,36 @@ def check_wheel(library, python):
         check_papers(library, [f"{environment}/bin/shamir-papers"], clean)
         check_command(library, [f"{environment}/bin/shamir"], clean)
         files = library.output_of([*pip[:-1], "show", "-f", "shamir"])
-        if "NOTICE" not in files or "py.typed" not in files or f"Version: {library.of_makefile('VERSION')}\n" not in files:
+        if "LICENSE" not in files or "NOTICE" not in files or "py.typed" not in files or f"Version: {library.of_makefile('VERSION')}\n" not in files:
             sys.exit(f"the wheel lacks something: {files}")
         library.output_of([*pip, "uninstall", "-y", "shamir"])
 
 
-def check_sources(python):
-    """Checks that an archive of the package's sources has no built library, even if one is there."""
+def made_sources(library, python, folder, umask=0o022):
+    """Makes an archive of the package's sources in a new folder, and returns it."""
+    pathlib.Path(folder).mkdir()
+    library.output_of([python, "tools/wheel", "--sources", folder], umask=umask)
+    return pathlib.Path(folder, f"shamir-{library.of_makefile('VERSION')}.tar.gz")
+
+
+def check_sources(library, python):
+    """Builds the archive of the package's sources twice, and compares the two. It must have what is compiled, as dist/c has it, and no built
+    library. If what is compiled is missing, an installation must say so. tools/alone installs the archive."""
     with tempfile.TemporaryDirectory() as folder:
-        binding, result = pathlib.Path(folder, "python"), pathlib.Path(folder, "result")
-        shutil.copytree(ROOT / "bindings" / "python", binding, ignore=shutil.ignore_patterns("__pycache__"))
-        for name, kept in [("libshamir.so", binding / "shamir"), ("NOTICE", binding)]:
-            shutil.copy(ROOT / name, kept)
-        result.mkdir()
-        words = [python, "-c", "import sys; from setuptools import build_meta; build_meta.build_sdist(sys.argv[1])", str(result)]
-        done = subprocess.run(words, cwd=binding, capture_output=True, text=True)
-        if done.returncode:
-            sys.exit(f"no archive of the package's sources is made: {done.stderr}")
-        [archive] = result.iterdir()
-        with tarfile.open(archive) as opened:
-            names = {name.partition("/")[2] for name in opened.getnames()}
-    missing = {"setup.py", "pyproject.toml", "README.md", "MANIFEST.in", "shamir/__init__.py", "shamir/cuts.py", "shamir/mnemonic.py", "shamir/command/program.py", "shamir/py.typed"} - names
-    built = [name for name in names if ".so" in name]
-    if missing or built:
-        sys.exit(f"the archive of the package's sources lacks {sorted(missing)}, and has {built}")
+        one, other = made_sources(library, python, f"{folder}/one"), made_sources(library, python, f"{folder}/other", 0o077)
+        if one.read_bytes() != other.read_bytes():
+            sys.exit("the same files give two archives of the package's sources under two umasks")
+        with tarfile.open(one) as opened:
+            opened.extractall(f"{folder}/there")
+        [there] = pathlib.Path(folder, "there").iterdir()
+        differ = [name for name, taken in CARRIED.items() if not (there / name).is_file() or (there / name).read_bytes() != (ROOT / taken).read_bytes()]
+        built = [str(path) for path in there.rglob("*.so")]
+        if differ or built:
+            sys.exit(f"the archive of the package's sources hasn't {differ} as the repository has it, and has {built}")
+        (there / "c" / "shamir.c").unlink()
+        done = subprocess.run([python, "setup.py", "-q", "build"], cwd=there, capture_output=True, text=True)
+    if done.returncode == 0 or "c/shamir.c isn't here, and the package is made with it" not in done.stderr:
+        sys.exit(f"without what is compiled, an installation ends with status {done.returncode}, {done.stderr!r}")
 
 
 def made_wheel(library, python, folder, umask):
@@ -103,8 +114,17 @@ def check_no_library(python):
         for name in ["bindings/python", "page", "tools"]:
             shutil.copytree(ROOT / name, f"{folder}/{name}", ignore=shutil.ignore_patterns("*.so", "__pycache__", "NOTICE", "out"))
         done = subprocess.run([python, f"{folder}/tools/wheel", folder], capture_output=True, text=True)
-    if done.returncode == 0 or "libshamir.so isn't here, and the package is nothing without its library" not in done.stderr:
+    if done.returncode == 0 or "libshamir.so isn't here, and a wheel is nothing without its library" not in done.stderr:
         sys.exit(f"without its library the wheel ends with status {done.returncode}, {done.stderr!r}")
+
+
+def check_no_setuptools(python):
+    """Checks that a Python without setuptools makes no wheel, and that the message says how to take another Python."""
+    with tempfile.TemporaryDirectory() as folder:
+        subprocess.run([python, "-m", "venv", "--without-pip", folder], check=True)
+        done = subprocess.run([f"{folder}/bin/python", str(ROOT / "tools" / "wheel"), folder], capture_output=True, text=True)
+    if done.returncode == 0 or "'make wheel PYTHON=PATH' takes another Python" not in done.stderr:
+        sys.exit(f"without setuptools the wheel ends with status {done.returncode}, {done.stderr!r}")
 
 
 def check(library):
@@ -115,4 +135,5 @@ def check(library):
         return
     check_wheel(library, python)
     check_no_library(python)
-    check_sources(python)
+    check_no_setuptools(python)
+    check_sources(library, python)

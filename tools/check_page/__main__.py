@@ -1,8 +1,8 @@
-"""Checks the page shamir.html in Chromium and in Firefox.
+"""Checks the page shamir.html in Chromium and in Firefox, and its tasks in WebKit.
 
     python3 tools/check_page [--browser NAME] [--page FILE] [--cases N] [--faults] [--no-pictures] [PART..]
 
-PART is one of sources, tasks, refusals, entry, astray, hasty, long, looks, agreement, privacy and ways; without one, all of them run.
+PART is one of sources, tasks, journey, change, refusals, entry, astray, hasty, long, looks, agreement, privacy, ways and webkit; without one, all of them run.
 `agreement` compares N backups, 20 if it isn't given. The pictures of each screen go to page/out, which takes time. `--faults` plants faults in copies of the
 sources instead, and checks that each is found. The status is 1 if something fails.
 If a browser, or what the page is built with, isn't installed, its parts are left out. A part that fails beside others
@@ -24,27 +24,31 @@ sys.path.insert(0, str(pathlib.Path(__file__).resolve().parent))
 import agreement  # noqa: E402
 import astray  # noqa: E402
 import browsers  # noqa: E402
+import change  # noqa: E402
 import choices  # noqa: E402
 import entry  # noqa: E402
 import faults  # noqa: E402
 import forms  # noqa: E402
 import hasty  # noqa: E402
+import journey  # noqa: E402
 import long_drill  # noqa: E402
 import looks  # noqa: E402
 import privacy  # noqa: E402
 import refusals  # noqa: E402
+import second_thoughts  # noqa: E402
 import sources  # noqa: E402
 import steps  # noqa: E402
 import tasks  # noqa: E402
 import typists  # noqa: E402
 import ways_out  # noqa: E402
+import webkit  # noqa: E402
 from hands import Page  # noqa: E402
 from left_out import left_out  # noqa: E402
 from texts import ROOT, say  # noqa: E402
 
-PARTS = ["sources", "tasks", "refusals", "entry", "astray", "hasty", "long", "looks", "agreement", "privacy", "ways"]
+PARTS = ["sources", "tasks", "journey", "change", "refusals", "entry", "astray", "hasty", "long", "looks", "agreement", "privacy", "ways", "webkit"]
 # The parts that take longest, and how many parts run side by side.
-LONG, AT_ONCE = ["privacy", "refusals", "tasks", "entry", "looks"], min(4, len(os.sched_getaffinity(0)))
+LONG, AT_ONCE = ["privacy", "change", "refusals", "tasks", "entry", "looks"], min(4, len(os.sched_getaffinity(0)))
 PICTURES, pictures = ROOT / "page/out", threading.Event()
 # The title, the address, the entries of the history, what is stored, and what was asked for.
 KEPT = """
@@ -97,6 +101,8 @@ def parts_of(name, url, modules, cases):
     """Returns each part of the check in this browser."""
     return {
         "tasks": lambda: in_browser(name, url, [*tasks.TASKS.values(), *forms.CHECKS]),
+        "journey": lambda: in_browser(name, url, journey.CHECKS + second_thoughts.CHECKS),
+        "change": lambda: in_browser(name, url, change.CHECKS),
         "refusals": lambda: in_browser(name, url, refusals.CHECKS),
         "entry": lambda: in_browser(name, url, entry.CHECKS + steps.CHECKS),
         "astray": lambda: in_browser(name, url, astray.CHECKS),
@@ -107,6 +113,10 @@ def parts_of(name, url, modules, cases):
         "privacy": lambda: privacy.check(name, url),
         "ways": lambda: ways_out.check(name, url),
     }
+
+
+def check_webkit(url):
+    webkit.check(url, lambda page, what: seer(lambda: page, "webkit")(what))
 
 
 def tried(name, part, check):
@@ -133,6 +143,8 @@ def checked(given):
     modules = [ROOT / "shamir32.wasm", ROOT / "shamir.wasm"]
     url = given.page.resolve().as_uri()
     jobs = [(name, part, check) for name in given.browser for part, check in parts_of(name, url, modules, given.cases).items() if part in wanted]
+    if "webkit" in wanted:
+        jobs.append(("webkit", "tasks", lambda: check_webkit(url)))
     # What takes longest begins first. `privacy` mostly waits.
     jobs.sort(key=lambda job: LONG.index(job[1]) if job[1] in LONG else len(LONG))
     with concurrent.futures.ThreadPoolExecutor(AT_ONCE) as pool:
@@ -158,10 +170,14 @@ def main():
     given.parts = given.parts or PARTS
     if not given.no_pictures:
         pictures.set()
+    lacking = webkit.missing()
+    if lacking and "webkit" in given.parts:
+        left_out(f"these Debian packages aren't installed, so shamir.html isn't tried in WebKit: {', '.join(lacking)}")
+        given.parts = [it for it in given.parts if it != "webkit"]
     missing = browsers.missing(given.browser)
-    if missing and given.parts != ["sources"]:
+    if missing and set(given.parts) - {"sources", "webkit"}:
         left_out(f"these Debian packages aren't installed, so shamir.html isn't tried: {', '.join(missing)}")
-        given.parts = [it for it in given.parts if it == "sources"]
+        given.parts = [it for it in given.parts if it in ("sources", "webkit")]
         if given.faults:
             return 0
     with browsers.workplace():

@@ -113,7 +113,7 @@ self.onmessage = (event) => {
     const all = new Uint8Array(memory.buffer);
     const base = Number(__heap_base.value);
     const used = (it) => it.reduce((sum, byte) => sum + (byte ? 1 : 0), 0);
-    return used(all.subarray(0, 1048576)) + used(all.subarray(base));
+    return used(all.subarray(0, 524288)) + used(all.subarray(base));
   });
   const arrays = watched.arrays.filter((it) => it.some((byte) => byte)).length;
   self.postMessage({ id: event.data.id, value: { left, arrays, count: watched.arrays.length } });
@@ -162,6 +162,16 @@ LOOK = """
   await ask("repair", { line: bytes(given.lines[0].replace(/ \\S+$/, " ? ?")) }).catch(() => 0);
   await ask("repair", { line: bytes(given.lines[0].replace(/\\S+ \\S+ \\S+/, "? ? ?")) });
   await ask("typedBack", { index: 1, line: bytes(given.lines[0]) });
+  for (const digits of ["00112233445566778899aabbccddeeff", "wrong"]) await ask("judge", { plan: "2of3", digits: bytes(digits), noted: "01234567" });
+  await ask("drop", { name: "1.0" });
+  await ask("putBack");
+  await ask("drop", { name: "0.0" });
+  for (const noted of ["01234567", ""]) await ask("renew", { plan: "2of2", noted, extendable: true });
+  if ((await ask("oldFingerprint")) !== "df41d8fe") throw new Error("the old papers give another secret");
+  const typeBack = async (index) => ask("typedBack", { index, line: await ask("paper", { index }) });
+  for (const index of [0, 1]) await typeBack(index);
+  await ask("resplit", { plan: "2of3" });
+  await typeBack(2);
   await ask("clear");
   const found = await ask("look");
   worker.terminate();

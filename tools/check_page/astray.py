@@ -68,7 +68,6 @@ def check_left_out(page, see):
         page.push(say("collect.end"))
         answer_passphrase(page, None, noted)
         page.push(say("drill.start"))
-        page.push(say("continue"))
         page.wait_title(say("check.done.left_out" if left else "check.done.good"))
         names = [name_of(line) for line in papers if line in papers[:3] + papers[5:] or line == papers[3] and left < 2 or not left]
         page.wait_text(say("verdict.papers", names=", ".join(names)))
@@ -138,7 +137,6 @@ def check_repaired(page, see):
     page.push(say("collect.end"))
     answer_passphrase(page, PASSPHRASE, FINGERPRINT)
     page.push(say("drill.start"))
-    page.push(say("continue"))
     page.wait_title(say("check.done.some"))
     page.wait_text(say("damaged.keep"))
     page.wait_text(say("damaged.suspect.one", names="0.0"))
@@ -175,7 +173,6 @@ def check_untried(page, see):
         page.wait_title(say("damaged.drill"))
         answer_passphrase(page, None, fingerprint)
         page.push(say("drill.start"))
-        page.push(say("continue"))
         page.wait_title(say(title))
         for text in wanted:
             page.wait_text(text)
@@ -185,45 +182,31 @@ def check_untried(page, see):
         end(page)
 
 
-def fill(page, fields):
-    """Types numbers into the fields of a plan, in place of what stands there."""
-    for name, value in fields:
-        page.go_to("spinbutton", name)
-        page.evaluate("document.activeElement.select()")
-        page.press("Backspace")
-        page.type(value)
-    page.push(say("continue"))
-
-
 def check_lost(page, see):
     """The only paper of a group without which nothing is recovered: nothing else gives it. No more is said to be there than is known."""
     papers = papers_of("2/3of5,1of1")
     begin(page, "replace")
     page.choose(say("replace.other"))
     page.push(say("continue"))
-    page.wait_text("But keep the old papers if a wallet uses them with another passphrase than the new backup has")
+    page.wait_text("The lost paper doesn't work together with the new ones.")
     page.wait_text("or if you don't have enough of them to recover it. Then make a new wallet while the old one still works")
     page.push(say("back"))
     page.choose(say("replace.destroyed"))
     page.push(say("continue"))
     take(page, papers[:4])
     page.push(say("collect.end"))
-    fill(page, [(say("replace.needed", group=1), "1"), (say("replace.members", group=1), "1")])
-    page.wait_text("1.0: No other papers give it. If your wallet still works, make a new wallet, and move your money to it.")
+    page.choose(say("which.paper", name="1.0"))
+    page.fill(say("which.needed"), "1", "spinbutton")
+    page.push(say("which.write"))
+    page.wait_text(f"{say('which.untold', name='1.0')} No other papers give it. If your wallet still works, make a new wallet, and move your money to it.")
     silent(page, "Or it takes")
     see("a paper that nothing else gives")
-    page.push(say("back"))
-    for name in (say("replace.needed", group=1), say("replace.members", group=1)):
-        page.go_to("spinbutton", name)
-        page.evaluate("document.activeElement.select()")
-        page.press("Backspace")
-    fill(page, [(say("replace.members", group=0), "5")])
-    page.push(say("replace.write", name="0.4"))
+    page.choose(say("which.paper", name="0.4"))
+    page.push(say("which.write"))
     page.wait_title(say("paper.title", name="0.4"))
     page.push(say("paper.written"))
     type_paper(page, papers[4])
     page.wait_title(say("replace.which"))
-    page.wait_text("No paper of group 0 is missing: you typed all of them.")
     page.push(say("replace.end"))
     page.wait_title(say("replace.done"))
     end(page)
@@ -232,8 +215,8 @@ def check_lost(page, see):
     page.push(say("continue"))
     take(page, papers_of("2of3")[:2])
     page.push(say("collect.end"))
-    fill(page, [(say("replace.members.only"), "16")])
-    page.push(say("replace.write", name="0.2"))
+    page.choose(say("which.paper", name="0.2"))
+    page.push(say("which.write"))
     page.wait_title(say("paper.title", name="0.2"))
     page.wait_text(say("takes.papers", needed=2))
     silent(page, "of the 16 papers")
@@ -258,7 +241,6 @@ def check_without(page, see):
         answer_passphrase(page, None, FINGERPRINT)
         if task == "check":
             page.push(say("drill.start"))
-            page.push(say("continue"))
         page.wait_title(say(title))
         page.wait_text(text)
         silent(page, "passphrase is mistyped")

@@ -150,15 +150,15 @@ def workplace():
         tempfile.tempdir = None
 
 
-def started(words, home):
+def started(words, home, more=None, passed=()):
     """Starts a browser, whose home and whose other files are in the folder `home`: the user's own may be missing or closed. What it
-    says goes to the file `said` there."""
+    says goes to the file `said` there. `more` are further values of its environment, and `passed` the open files that it keeps."""
     if interrupted.is_set():
         raise Failed("the check is interrupted")
     own = {"HOME": str(home), "TMPDIR": str(home), "XDG_RUNTIME_DIR": str(home), "MOZ_CRASHREPORTER_DISABLE": "1"}
-    environment = {name: value for name, value in os.environ.items() if not name.startswith("XDG_")} | own
+    environment = {name: value for name, value in os.environ.items() if not name.startswith("XDG_")} | own | (more or {})
     with open(home / "said", "wb") as said:
-        process = subprocess.Popen(words, stdin=subprocess.DEVNULL, stdout=said, stderr=subprocess.DEVNULL, start_new_session=True, env=environment)
+        process = subprocess.Popen(words, stdin=subprocess.DEVNULL, stdout=said, stderr=subprocess.DEVNULL, start_new_session=True, env=environment, pass_fds=passed)
     running[process] = home
     return process
 

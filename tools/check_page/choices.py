@@ -2,7 +2,7 @@
 what one paper says."""
 from browsers import Failed
 from refusals import BAD_CHECKSUM, BIP39, changed, paste, said
-from tasks import FINGERPRINT, PASSPHRASE, SECRET, SOUND_PAPER, THREE_GROUPS, answer_passphrase, begin, choose_wallet, end, example, fingerprint_of, plain, read_paper, type_digits, type_paper
+from tasks import FINGERPRINT, PASSPHRASE, SECRET, SOUND_PAPER, THREE_GROUPS, answer_passphrase, begin, choose_wallet, create, end, example, fingerprint_of, plain, read_paper, type_digits, type_paper
 from texts import counted, say
 
 # Returns the texts that are green, or in a green frame, and the classes of those that have none.
@@ -59,6 +59,61 @@ def check_wallet(page, see):
     page.wait_title(say("home.title"))
 
 
+# In place of the random bytes of the worker, these are drawn: 1, 8, 15, and so on. Before they are given, a script may change them.
+DRAWN = bytes((at * 7 + 1) % 256 for at in range(32))
+FOREKNOWN = """
+{
+  const Whole = window.Blob;
+  const drawn = "let draws = 0; crypto.getRandomValues = (it) => { it.forEach((_, at) => (it[at] = at * 7 + 1)); %s return it; };";
+  window.Blob = function (parts, options) { return new Whole(options?.type === 'text/javascript' ? [drawn, ...parts] : parts, options); };
+}
+null
+"""
+THROWS = "31415 26535 24426 43331 52364 26463 52313 25114 16155 31122 31415 26535 24426 43331 52364 26463 52313 25114 16155 31122 1"
+
+
+def check_dice(page, see):
+    """Throws of a die are mixed into the random bytes of a new secret, if they are enough."""
+    page.evaluate(FOREKNOWN % "")
+    for count, source in [(50, "new16"), (101, "new32")]:
+        throws = THROWS.replace(" ", "")[:count]
+        begin(page, "make")
+        page.choose(say("plan.own"))
+        fewer = f"{say('plan.fewer')}: {say('plan.members', group=0)}"
+        for change in (say("plan.drop"), say("plan.drop"), fewer, fewer):
+            page.push(change)
+        page.push(say("continue"))
+        page.push(say("plan.sure.yes"))
+        page.choose(say("wallet.older"))
+        page.push(say("continue"))
+        page.choose(say(f"secret.{source}"))
+        page.tick(say("passphrase.none"))
+        page.evaluate("document.querySelector('details').open = true; null")
+        for typed, text in [(throws[:49], say("more.dice.few", count=49, least=count // 50 * 50)), ("7", say("more.dice.wrong")), (throws, "")]:
+            page.go_to("textbox", say("more.dice"))
+            page.evaluate("document.activeElement.select()")
+            page.type(typed)
+            if text:
+                page.push(say("make.create"))
+                page.wait_text(text)
+        see("throws of a die")
+        page.push(say("make.create"))
+        page.wait_title(say("make.forms"))
+        page.wait_text(say("more.dice.mixed"))
+        check_green(page, [])
+        page.push(say("forms.go"))
+        share = plain.parse(read_paper(page).encode())
+        mixed = int(throws.translate(str.maketrans("123456", "012345")), 6) % 256 ** len(share["value"])
+        wanted = bytes(a ^ b for a, b in zip(mixed.to_bytes(len(share["value"]), "big"), DRAWN))
+        if plain.decrypt(share["value"], b"", share) != wanted:
+            raise Failed(f"{count} throws and the random bytes give another secret than their xor")
+        page.push(say("clear"))
+        page.push(say("clear.yes"))
+        page.wait_title(say("home.title"))
+    page.call("browsingContext.reload", wait="complete")
+    page.wait_title(say("home.title"))
+
+
 def check_dangers(page, see):
     """Two groups are both needed at first. A plan in which one paper decides is said in red, and asked about."""
     begin(page, "make")
@@ -98,10 +153,13 @@ def make_own(page):
     for field in ("passphrase.label", "passphrase.again"):
         page.fill(say(field), PASSPHRASE)
     page.push(say("make.create"))
+    page.wait_title(say("make.forms"))
+    check_green(page, [say("secret.same")])
+    page.push(say("forms.go"))
     papers = []
     for name in ("0.0", "0.1", "0.2"):
         page.wait_title(say("paper.title", name=name))
-        check_green(page, [say("secret.same")] if name == "0.0" else [])
+        check_green(page, [])
         papers.append(read_paper(page))
         page.push(say("paper.written"))
     page.wait_title(say("back.begin.title"))
@@ -127,11 +185,16 @@ def check_notes(page, see):
     answer_passphrase(page, PASSPHRASE, "01234567")
     page.wait_text(say("proof.other"))
     see("another fingerprint than the backup has")
+    if not page.is_true(f"(it) => it.value === '{PASSPHRASE}'", page.node("textbox", say("passphrase.label"))):
+        raise Failed("a mistyped fingerprint empties the passphrase")
+    for label, text in [("passphrase.label", ""), ("noted.label", FINGERPRINT)]:
+        page.go_to("textbox", say(label))
+        page.evaluate("document.activeElement.select()")
+        page.press("Backspace")
+        page.type(text)
     for passphrase, text in [(None, "proof.passphrase.none"), ("TREZOr", "proof.passphrase")]:
         answer_passphrase(page, passphrase, FINGERPRINT)
         page.push(say("drill.start"))
-        page.wait_title(say("drill.done"))
-        page.push(say("continue"))
         page.wait_title(say("make.failed.title"))
         page.wait_text(say(text))
         check_green(page, [])
@@ -144,8 +207,6 @@ def check_notes(page, see):
     answer_passphrase(page, PASSPHRASE, None)
     page.push(say("drill.start"))
     page.wait_text(say("verdict.all.own", quorums=counted(3, "quorum"), fingerprint=FINGERPRINT))
-    check_green(page, [])
-    page.push(say("continue"))
     page.wait_title(say("make.done"))
     page.wait_text(say("make.restore"))
     check_green(page, [])
@@ -170,8 +231,6 @@ def check_looks_of_results(page, see):
         answer_passphrase(page, PASSPHRASE, fingerprint)
         page.push(say("drill.start"))
         page.wait_text(said)
-        check_green(page, [said] if fingerprint else [])
-        page.push(say("continue"))
         page.wait_title(say("check.done.good" if fingerprint else "check.done.same"))
         check_green(page, [said] if fingerprint else [])
         see(f"end of a drill, {which}")
@@ -240,6 +299,14 @@ COLUMNS = """
 })('%s')
 """
 IN_SIGHT = "(({ top, bottom }) => top > -1 && bottom < innerHeight + 1)((%s).getBoundingClientRect())"
+# Whether the field and the buttons for the number of words stand in one line, and none of them is two lines high.
+ONE_LINE = """
+(() => {
+  const places = [...document.querySelectorAll('.counts input, .counts button')].map((it) => it.getBoundingClientRect());
+  const ends = places.map(({ bottom }) => bottom);
+  return places.length === 3 && Math.max(...ends) - Math.min(...ends) < 8 && places.every(({ height }) => height < 60);
+})()
+"""
 PHONE = (390, 844)
 
 
@@ -247,6 +314,8 @@ def check_phone(page, see):
     """On a phone, the answer to a paper is in sight of its fields. Words run down two columns, and a shown paper is seen as a whole."""
     page.size(*PHONE)
     begin(page, "check")
+    if not page.evaluate(ONE_LINE):
+        raise Failed("the numbers of words don't stand in one line")
     for line, text in [(SOUND_PAPER, say("collect.taken", name="0.0")), (BAD_CHECKSUM, said(18, first=20))]:
         paste(page, line)
         page.wait_text(text)
@@ -258,7 +327,7 @@ def check_phone(page, see):
         see(f"phone {'sound' if line == SOUND_PAPER else 'wrong'} paper")
         if line == SOUND_PAPER:
             page.go_to("button", say("collect.end"))
-            page.evaluate("document.querySelector('.entry .primary').focus({ preventScroll: true }); null")
+            page.evaluate("document.querySelector('.entry .read').focus({ preventScroll: true }); null")
             page.press("Enter")
             page.wait_text(say("entry.nothing"))
             page.wait(lambda: page.evaluate(IN_SIGHT % "document.querySelector('.answer')"), "the answer in sight")
@@ -267,7 +336,7 @@ def check_phone(page, see):
     begin(page, "make")
     choose_wallet(page)
     page.tick(say("passphrase.none"))
-    page.push(say("make.create"))
+    create(page)
     read_paper(page)
     see("phone shown paper")
     if page.evaluate(COLUMNS % ".paper li") != "down 2 columns, all shown":
@@ -296,4 +365,4 @@ def check_help(page, see):
     page.wait_title(say("home.title"))
 
 
-CHECKS = [check_help, check_phone, check_wallet, check_dangers, check_notes, check_looks_of_results, check_what]
+CHECKS = [check_help, check_phone, check_wallet, check_dice, check_dangers, check_notes, check_looks_of_results, check_what]

@@ -102,6 +102,26 @@ def check_mistyped(page, see):
     page.wait_title(say("home.title"))
 
 
+# Three letters make each of these words, and four are typed. The fourth letter of 'academic', with those of the last word, begins 'damage'.
+FOUR = "daughter necklace lyrics briefing funding network keyboard moment academic amazing"
+
+
+def check_guessed(page, see):
+    """A word that can be read in two ways, between which only the typist's habit decides, is one to look at."""
+    begin(page, "check")
+    page.go_to("textbox", say("entry.word", number=1))
+    page.type("".join(word[:4] for word in FOUR.split()))
+    page.wait_text(say("entry.guessed", number=10))
+    typed = page.evaluate("[...document.querySelectorAll('.word input')].map((it) => it.value).join(' ')").strip()
+    if not typed.startswith(FOUR):
+        raise Failed(f"four letters of each word are read as other words: {typed}")
+    if page.evaluate("[...document.querySelectorAll('.word')].map((it, at) => it.classList.contains('doubt') ? at + 1 : '').join('')") != "10":
+        raise Failed("the word that habit decided isn't marked, or another word is")
+    see("a word that habit decided")
+    page.push(say("clear"))
+    page.wait_title(say("home.title"))
+
+
 LEAVING = """
 (() => {
   const it = document.createEvent('BeforeUnloadEvent');
@@ -210,4 +230,4 @@ def check_damaged(page, see):
     page.wait_title(say("home.title"))
 
 
-CHECKS = [check_unread, check_keys, check_habits, check_mistyped, check_kept, check_damaged]
+CHECKS = [check_unread, check_keys, check_habits, check_guessed, check_mistyped, check_kept, check_damaged]

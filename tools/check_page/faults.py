@@ -8,18 +8,23 @@ import tempfile
 
 import agreement
 import astray
+import change
 import choices
 import entry
 import forms
 import hasty
+import journey
 import long_drill
 import looks
 import privacy
 import refusals
+import second_thoughts
 import sources
 import steps
 import tasks
+import typists
 import ways_out
+import webkit
 from browsers import Failed, browser
 from hands import Page
 from texts import say
@@ -59,10 +64,11 @@ FAULTS = [
     ("a field that the browser keeps", "page/dom.js", '  autocomplete: "off",\n', "", lambda folder, url: sources.check(folder / "page")),
     ("the same, looked for in the profile", "page/dom.js", '  autocomplete: "off",\n', "", lambda folder, url: privacy.check("chromium", url)),
     ("a policy that lets requests out", "shamir.html", "connect-src 'none'", "connect-src http:", lambda folder, url: ways_out.check("chromium", url)),
-    ("papers that aren't cleared", "page/desk.js", "zero(...held.papers, ...held.left,", "zero(...held.left,", of_page(agreement.check_memory)),
-    ("a paper that was left out isn't cleared", "page/desk.js", "zero(...held.papers, ...held.left,", "zero(...held.papers,", of_page(agreement.check_memory)),
+    ("letters of the last word are awaited after its space", "page/word_field.js", "    this.#moved();\n    if (!isBefore", "    if (!isBefore", of_page(lambda page: typists.check(page, unseen, 40, ["in turn, space"]))),
+    ("papers that aren't cleared", "page/desk.js", "zero(...held.papers, ...held.old,", "zero(...held.old,", of_page(agreement.check_memory)),
+    ("a paper that was left out isn't cleared", "page/desk.js", "...held.dropped, ...held.left,", "...held.dropped,", of_page(agreement.check_memory)),
     ("a paper that was left out is forgotten", "page/desk.js", "if (error instanceof Refusal) leaveOut(", "if (false) leaveOut(", of_page(lambda page: astray.check_left_out(page, unseen))),
-    ("a paper that no backup has is offered", "page/desk.js", "isPossible: share.groupIndex < share.groupCount", "isPossible: true", of_page(lambda page: astray.check_impossible(page, unseen))),
+    ("a paper that no backup has is offered", "page/kind.js", "isPossible: share.groupIndex < share.groupCount", "isPossible: true", of_page(lambda page: astray.check_impossible(page, unseen))),
     ("a good paper is blamed for a repaired one", "page/collect.js", "saidForeign(error, repaired)", "saidForeign(error, [])", of_page(lambda page: astray.check_repaired(page, unseen))),
     ("a repaired paper that no drill tried is called right", "page/check_papers.js", "const isTried = names.includes(name);", "const isTried = true;", of_page(lambda page: astray.check_untried(page, unseen))),
     ("without a noted fingerprint, a repaired paper is called right", "page/check_papers.js", 'result === "good" && noted !== "")', 'result === "good")', of_page(lambda page: astray.check_untried(page, unseen))),
@@ -70,42 +76,42 @@ FAULTS = [
     ("a passphrase that wasn't typed is called mistyped", "page/desk.js", "hasPassphrase: () => held.passphrase.length > 0", "hasPassphrase: () => true", of_page(lambda page: astray.check_without(page, unseen))),
     ("the module's memory isn't cleared", "bindings/js/calls.js", ".fill(0", ".slice(0", of_page(agreement.check_memory)),
     ("a wrong word is replaced", "page/word_field.js", "    else {\n      this.#mark(true);\n", "    else {\n      this.set(nearest(this.#list, this.word)[0]);\n", of_page(lambda page: refusals.check_words(page, unseen))),
-    ("another paper is taken for the right one", "page/desk.js", "const same = isSame(line, held.shown[index]);", "const same = true;", of_page(lambda page: tasks.check_make(page, unseen))),
+    ("another paper is taken for the right one", "page/desk.js", "const same = isSame(engine, line, held.shown[index]);", "const same = true;", of_page(lambda page: tasks.check_make(page, unseen))),
     ("words that weren't read are left out", "page/collect.js", "if (!this.#entry.isEmpty) {", "if (false) {", of_page(lambda page: entry.check_unread(page, unseen))),
     ("a paper that was taken out is still called sound", "page/collect.js", 'this.#entry.say(say("collect.dropped", { name }));', "", of_page(lambda page: refusals.check_words(page, unseen))),
     ("Enter and Tab end the next word", "page/word_field.js", "if (isEnding && arrived === this", "if (false && arrived === this", of_page(lambda page: entry.check_keys(page, unseen))),
     ("another try empties the fingerprint", "page/passphrase.js", 'field.value = noted ?? "";', 'field.value = "";', of_page(lambda page: tasks.check_papers(page, unseen))),
-    ("a refusal chooses another secret", "page/make_backup.js", "new SecretFields(chosen)", 'new SecretFields({ ...chosen, source: "new16" })', of_page(lambda page: refusals.check_values(page, unseen))),
-    ("digits aren't compared with the noted fingerprint", "page/desk.js", 'if (noted !== "" && noted !== fingerprint) return', "if (false) return", of_page(lambda page: refusals.check_values(page, unseen))),
+    ("a refusal chooses another secret", "page/make_backup.js", "new SecretFields(chosen)", 'new SecretFields({ ...chosen, source: "new16" })', of_page(lambda page: steps.check_chosen(page, unseen))),
+    ("digits aren't compared with the noted fingerprint", "page/judge.js", 'fault: noted !== "" && noted !== fingerprint ? "other" : ""', 'fault: ""', of_page(lambda page: refusals.check_values(page, unseen))),
     ("digits are typed once", "page/make_backup.js", 'return typed === again ? this.#noted.missing() : say("secret.differ");', "return this.#noted.missing();", of_page(lambda page: refusals.check_values(page, unseen))),
     ("without a noted fingerprint, no fault is found", "page/check_papers.js", 'const good = !isNoted ? "same" : left', "const good = left", of_page(lambda page: tasks.check_replace(page, unseen))),
     ("no more papers can be typed", "page/collect.js", '{ key: "papers", label: say("collect.more"), kind: "primary" },', "", of_page(lambda page: refusals.check_papers(page, unseen))),
     ("digits of a wrong secret", "page/recover.js", 'which === "other" ? [] :', "false ? [] :", of_page(lambda page: tasks.check_recover(page, unseen))),
-    ("a bad checksum names no word", "page/desk.js", "zero(...engine.repairBytes(line));", "engine.version();", of_page(lambda page: refusals.check_papers(page, unseen))),
-    ("a wrong word's place is counted from 0", "page/refusals.js", ".map((number) => number - 1)", ".map((number) => number)", of_page(lambda page: refusals.check_papers(page, unseen))),
+    ("a bad checksum names no word", "page/kind.js", "zero(...engine.repairBytes(line));", "engine.version();", of_page(lambda page: refusals.check_papers(page, unseen))),
+    ("a wrong word's place is counted from 0", "page/refusals.js", "[error.refused.details[0] - 1]", "[error.refused.details[0]]", of_page(lambda page: refusals.check_papers(page, unseen))),
     ("one of two papers that fit isn't shown", "page/read_damaged.js", "const fits = possible.map(", "const fits = possible.slice(0, 1).map(", of_page(lambda page: entry.check_damaged(page, unseen))),
     ("found words at other places", "page/read_damaged.js", "word === marks[at] ? []", "word !== marks[at] ? []", of_page(lambda page: tasks.check_damaged(page, unseen))),
     ("an answer stays beside other words", "page/read_damaged.js", "this.#found.replaceChildren();", "", of_page(lambda page: tasks.check_damaged(page, unseen))),
     ("a hidden tab shows words that were found", "page/show_paper.js", "concealLater(list, empty);", "", of_page(lambda page: hidden_words(page))),
-    ("a damaged paper that isn't cleared", "page/desk.js", "    return held.shown.map(kindOf);\n  } finally {\n    zero(line);", "    return held.shown.map(kindOf);\n  } finally {", of_page(agreement.check_memory)),
+    ("a damaged paper that isn't cleared", "page/desk.js", "kindOf(engine, line));\n  } finally {\n    zero(line);", "kindOf(engine, line));\n  } finally {", of_page(agreement.check_memory)),
     ("an engine that repairs nothing", "page/self_test.js", 'SOUND.replace("agency", "?")', 'SOUND.replace("agency", "zero")', of_page(unseen)),
     ("a paper of another backup is taken", "page/desk.js", "statusOf([...held.papers, line])", "statusOf([line])", of_page(lambda page: refusals.check_papers(page, unseen))),
     ("the drill says that all are right", "page/quorums.js", "return tried.expected ?? ", "return true ?? ", of_page(lambda page: refusals.check_mixed(page, unseen))),
     ("the noted fingerprint isn't compared", "bindings/js/shamir.js", "[form, textOrNone(own, expect", "[FORM_FINGERPRINTS, textOrNone(own, expect", of_page(lambda page: tasks.check_papers(page, unseen))),
     ("an engine that gives another secret", "page/self_test.js", 'const SOUND_SECRET = "bb', 'const SOUND_SECRET = "bc', of_page(unseen)),
+    ("an engine that splits a backup anew otherwise", "page/self_test.js", "ascending(30,", "ascending(31,", of_page(unseen)),
     ("half written papers are cleared at once", "page/main.js", 'if (unfinishedKey() !== "") {', "if (false) {", of_page(lambda page: hidden(page))),
     ("Enter in a passphrase does nothing", "page/screen.js", 'if (event.key !== "Enter") return;', "return;", of_page(lambda page: steps.check_passphrase(page, unseen))),
     ("what wallets don't take is refused late", "page/desk.js", "error.code !== Code.NO_SHARES", "error.code < Code.NO_SHARES", of_page(lambda page: refusals.check_values(page, unseen))),
     ("too few papers are told late", "page/replace.js", "if (!mayDetermine(status)) {", "if (false) {", of_page(lambda page: refusals.check_mixed(page, unseen))),
-    ("a number of papers can't be given again", "page/replace.js", '    { key: "plan", label: say("back") },\n', "", of_page(lambda page: steps.check_wanted(page, unseen))),
     ("a space at the end of a passphrase isn't told", "page/passphrase.js", "if (typed === typed.trim() || isAsked) return null;", "if (true) return null;", of_page(lambda page: refusals.check_values(page, unseen))),
     ("a paper without which nothing is recovered isn't told", "page/plan_choice.js", "this.#dangers.textContent = dangers;", "", of_page(lambda page: steps.check_make(page, unseen))),
     ("one of two groups is enough", "page/plan_choice.js", "if (groups.length === 2) this.plan.needed = 2;", "", of_page(lambda page: choices.check_dangers(page, unseen))),
-    ("a plan with a danger isn't asked about", "page/make_backup.js", 'if (dangers === "") return true;', "if (true) return true;", of_page(lambda page: choices.check_dangers(page, unseen))),
+    ("a plan with a danger isn't asked about", "page/plan_choice.js", 'if (dangers === "") return true;', "if (true) return true;", of_page(lambda page: choices.check_dangers(page, unseen))),
     ("the wallet needn't be said", "page/wallet.js", 'chosen.wallet === null ? say("wallet.missing") : null', "null", of_page(lambda page: choices.check_wallet(page, unseen))),
     ("papers for an older wallet have the flag", "page/make_backup.js", 'extendable: wallet === "flag"', "extendable: true", of_page(lambda page: tasks.check_make(page, unseen))),
     ("a text promises that one paper tells nothing", "page/texts.js", "and a thief hasn't.", "and a thief learns nothing.", lambda folder, url: sources.check(folder / "page")),
-    ("another fingerprint than the backup has is taken", "page/note_and_drill.js", 'given !== "" && given !== made.fingerprint', "false", of_page(lambda page: choices.check_notes(page, unseen))),
+    ("another fingerprint than the backup has is taken", "page/note_and_drill.js", 'given !== "" && given !== fingerprint', "false", of_page(lambda page: choices.check_notes(page, unseen))),
     ("the passphrase that was noted isn't tried", "page/passphrase.js", '  await desk.ask("passphrase", { passphrase: typed.passphrase }, [typed.passphrase.buffer]);\n', "", of_page(lambda page: choices.check_notes(page, unseen))),
     ("a new backup needs no noted fingerprint", "page/note_and_drill.js", "mayLack: isOwn", "mayLack: true", of_page(lambda page: tasks.check_make(page, unseen))),
     ("what wasn't compared is green", "page/drill.js", 'isEqual ? "good" : "note"', '"good"', of_page(lambda page: choices.check_looks_of_results(page, unseen))),
@@ -129,7 +135,6 @@ FAULTS = [
     ("fewer fields lose words", "page/paper_entry.js", "for (const { box } of this.#spare) box.hidden = true;", "for (const it of this.#spare) { it.box.hidden = true; it.set(''); }", of_page(lambda page: entry.check_kept(page, unseen))),
     ("one misspelt word is taken for BIP-39", "page/spelling.js", "foreign >= BIP39_FOREIGN * words.length", "foreign > 0", of_page(lambda page: refusals.check_words(page, unseen))),
     ("a mark of one word is counted as open", "page/spelling.js", "mark.slice(0, -1)).length > 1", "mark.slice(0, -1)).length > 0", of_page(lambda page: entry.check_damaged(page, unseen))),
-    ("a number that is none is taken for no answer", "page/replace.js", " || field.validity.badInput", "", of_page(lambda page: steps.check_wanted(page, unseen))),
     ("an engine that isn't right begins a task", "page/main.js", " && own.begun.fault === null", "", of_page(lambda page: hasty.check_launch(page, unseen))),
     ("a task that was cleared begins", "page/main.js", " && mine === awaited", "", of_page(lambda page: hasty.check_launch(page, unseen))),
     ("a double click skips a paper", "page/dom.js", "if (!(event.detail > 1)) onPress();", "onPress();", of_page(lambda page: hasty.check_double_click(page, unseen))),
@@ -137,7 +142,50 @@ FAULTS = [
     ("an early stop is lost", "page/client.js", "if (this.#isStopped) throw new Stopped();", "", of_page(lambda page: hasty.check_stop(page, unseen))),
     ("another secret than the noted one is held", "page/desk.js", 'if (noted !== "" && noted !== fingerprint) forgetSecret();', "", of_page(agreement.check_memory)),
     ("a hidden tab shows a paper", "page/main.js", "if (document.hidden) conceal();", "", of_page(lambda page: hidden(page))),
+    ("steps begin anew", "page/note_and_drill.js", "setStep(7);", "setStep(1);", of_page(lambda page: journey.check_steps(page, unseen))),
+    ("two buttons are to be pressed next", "page/collect.js", "this.#entry.isLeading = false;", "", of_page(lambda page: journey.check_steps(page, unseen))),
+    ("a result is said twice", "page/check_papers.js", "    toldVerdict(verdict),\n", "    toldVerdict(verdict),\n    toldVerdict(verdict),\n", of_page(lambda page: journey.check_steps(page, unseen))),
+    ("a paper that is here is taken for missing", "page/which_paper.js", "if (found?.names.includes(name)) return", "if (false) return", of_page(lambda page: steps.check_which(page, unseen))),
+    ("a name between those that are here isn't offered", "page/which_paper.js", "filter((member) => !here.includes(member))", "filter((member) => member > last)", of_page(lambda page: steps.check_which(page, unseen))),
+    ("one paper fewer may be lost", "page/plan_picture.js", "group.members - group.needed + 1", "group.members - group.needed", of_page(lambda page: journey.check_plans(page, unseen))),
+    ("a thief needs all groups", "page/plan_picture.js", "group.needed), needed)", "group.needed), groups.length)", of_page(lambda page: journey.check_plans(page, unseen))),
+    ("cards of other papers", "page/plan_picture.js", "marked.includes(name) ?", "!marked.includes(name) ?", of_page(lambda page: journey.check_plans(page, unseen))),
+    ("a missing paper looks as if it was here", "page/picture.js", 'names[at] ?? say("card.missing")', 'names[at] ?? ""', of_page(lambda page: journey.check_plans(page, unseen))),
+    ("the columns of a form touch", "page/style.css", "column-gap: 36pt", "column-gap: 2pt", of_page(lambda page: forms.check_blank(page, unseen))),
+    ("a form tells heirs nothing", "page/forms.js", '    paragraph(say(isOnly ? "blank.heirs.one" : "blank.heirs"), "heirs"),\n', "", of_page(lambda page: forms.check_blank(page, unseen))),
+    ("a single paper is one of several", "page/forms.js", "planNames(plan).length === 1", "false", of_page(lambda page: forms.check_single(page, unseen))),
+    ("forms stay beside words", "page/forms.js", "  clearForms();\n  return", "  return", of_page(lambda page: forms.check_offered(page, unseen))),
+    ("a label is lost", "page/forms.js", "kept.set(name, typed(name))", 'kept.set(name, "")', of_page(lambda page: forms.check_offered(page, unseen))),
+    ("a paper that is put back is lost", "page/desk.js", "  held.papers.push(paper);\n", "", of_page(lambda page: second_thoughts.check_put_back(page, unseen))),
+    ("a paper that was taken out isn't cleared", "page/desk.js", "...held.old, ...held.dropped,", "...held.old,", of_page(agreement.check_memory)),
+    ("emptied words come back over others", "page/paper_entry.js", "    this.#remember([]);\n", "", of_page(lambda page: second_thoughts.check_emptied(page, unseen))),
+    ("a mistyped fingerprint empties all fields", "page/make_backup.js", " ?? (await secret.refusal(desk, plan))", "", of_page(lambda page: refusals.check_values(page, unseen))),
+    ("no words are offered as one is typed", "page/word_field.js", "    this.#suggest(letters);\n", "", of_page(lambda page: second_thoughts.check_offered(page, unseen))),
+    ("a screen reader isn't told which words are near", "page/word_field.js", 'announce(`${told} ${offered.join(", ")}`)', "announce(told)", of_page(lambda page: second_thoughts.check_offered(page, unseen))),
+    ("numbers in several formats", "page/say.js", 'value.toLocaleString("en")', "String(value)", of_page(lambda page: long_drill.check_big(page, unseen))),
+    ("'33 words' stands in a second line", "page/style.css", ".counts button.small { min-height: 2.9rem; white-space: nowrap; }", ".counts button.small { min-height: 2.9rem; width: 9rem; }", of_page(lambda page: choices.check_phone(page, unseen))),
+    ("throws of a die take the place of random bytes", "page/dice.js", "byte ^ own[at]", "own[at]", of_page(lambda page: choices.check_dice(page, unseen))),
+    ("throws of a die aren't mixed in", "page/desk.js", "  else mix(secret, dice);\n", "", of_page(lambda page: choices.check_dice(page, unseen))),
+    ("old papers aren't cleared", "page/desk.js", "...held.old, ", "", of_page(agreement.check_memory)),
+    ("the secret is shown while the plan changes", "page/change_plan.js", 'paragraph(say("change.thief"))', f'paragraph(say("change.thief") + " {tasks.SECRET}")', of_page(lambda page: change.check_bare(page, unseen))),
+    ("a new backup is made with another passphrase", "page/anew.js", "{ passphrase, exponent, extendable });", "{ exponent, extendable });", of_page(lambda page: change.check_renewed(page, unseen))),
+    ("a new backup has another exponent", "page/anew.js", "{ passphrase, exponent, extendable });", "{ passphrase, exponent: 1, extendable });", of_page(lambda page: change.check_renewed(page, unseen))),
+    ("a new backup has the flag for an older wallet", "page/change_plan.js", 'extendable: chosen.wallet === "flag"', "extendable: true", of_page(lambda page: change.check_renewed(page, unseen))),
+    ("new papers have the old identifier", "page/anew.js", "while (kindOf(engine, made[0]).id === id)", "while (false)", of_page(lambda page: change.check_identifier(page, unseen))),
+    ("papers are made of another secret than the noted one", "page/anew.js", 'if (noted !== "" && noted !== fingerprint)', "if (false)", of_page(lambda page: change.check_renewed(page, unseen))),
+    ("new papers aren't compared with the old ones", "page/change_plan.js", "noted: old.value,", "noted,", of_page(lambda page: change.check_renewed(page, unseen))),
+    ("old papers aren't compared with the noted fingerprint", "page/change_plan.js", 'if (noted !== "" && noted !== old.value)', "if (false)", of_page(lambda page: change.check_extendable(page, unseen))),
+    ("a plan that was changed without a noted fingerprint is green", "page/change_plan.js", 'isOwn: noted === ""', "isOwn: false", of_page(lambda page: change.check_bare(page, unseen))),
+    ("a passphrase that isn't here is taken from before", "page/change_plan.js", 'if (given === null) await desk.ask("passphrase", { passphrase: new Uint8Array() });', "", of_page(lambda page: change.check_bare(page, unseen))),
+    ("old papers stay among the new ones", "page/desk.js", "[held.papers, [], made]", "[held.papers, [...held.papers], made]", of_page(lambda page: change.check_bare(page, unseen))),
+    ("new papers that are half written are cleared at once", "page/change_plan.js", 'unfinished: "clear.changed"', 'unfinished: ""', of_page(lambda page: change.check_extendable(page, unseen))),
+    ("an extendable backup is made of its secret", "page/change_plan.js", "kinds[0].extendable ? split", "false ? split", of_page(lambda page: change.check_bare(page, unseen))),
+    ("a change of the plan can't be stopped", "page/change_plan.js", "await desk.askLong(call, given)", "await desk.ask(call, given)", of_page(lambda page: change.check_stop(page, unseen))),
+    ("a word that only habit decided isn't marked", "page/word_field.js", "    if (isGuessed) this.#events.guessed(this.#at);\n", "", of_page(lambda page: entry.check_guessed(page, unseen))),
 ]
+
+if not webkit.missing():
+    FAULTS.append(("a result is said twice, looked for in WebKit", "page/check_papers.js", "    toldVerdict(verdict),\n", "    toldVerdict(verdict),\n    toldVerdict(verdict),\n", lambda folder, url: webkit.check(url, lambda page, what: None)))
 
 
 def hidden_words(page):
@@ -151,7 +199,7 @@ def hidden(page):
     tasks.begin(page, "make")
     tasks.choose_wallet(page)
     page.tick(say("passphrase.none"))
-    page.push(say("make.create"))
+    tasks.create(page)
     page.wait_title(say("paper.title", name="0.0"))
     tasks.read_paper(page)
     looks.check_hidden(page)

@@ -4,7 +4,7 @@ import time
 from browsers import Failed
 from looks import words_shown
 from refusals import SOUND, changed, paste
-from tasks import answer_passphrase, begin, choose_wallet, end
+from tasks import answer_passphrase, begin, choose_wallet, create, end
 from texts import say
 
 # Lets what the page starts, or what it asks the worker for, come late or not at all. `UNDO` is run after a check.
@@ -59,7 +59,7 @@ def check_double_click(page, _):
     begin(page, "make")
     choose_wallet(page)
     page.tick(say("passphrase.none"))
-    page.push(say("make.create"))
+    create(page)
     page.wait_title(say("paper.title", name="0.0"))
     page.wait(lambda: words_shown(page) == 20, "the words")
     page.double_click(say("paper.written"))

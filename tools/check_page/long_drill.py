@@ -4,7 +4,7 @@ import math
 from browsers import Failed
 from refusals import SOUND, changed, paste
 from tasks import answer_passphrase, begin, choose_wallet, end, fingerprint_of, plain
-from texts import counted, say
+from texts import say
 
 # A plan with more quorums than a drill tries: three groups of eight papers, four of each needed.
 GROUPS, MEMBERS, NEEDED = 3, 8, 4
@@ -30,7 +30,7 @@ def check_big(page, see):
     fingerprint = fingerprint_of([line for group in range(GROUPS) for line in lines[group * MEMBERS : group * MEMBERS + NEEDED]], "")
     answer_passphrase(page, None, fingerprint)
     total = f"{math.comb(MEMBERS, NEEDED) ** GROUPS:,}"
-    page.wait_text(say("drill.count_part", total=total, first=FIRST))
+    page.wait_text(say("drill.count_part", total=total, first=f"{FIRST:,}"))
     page.push(say("drill.start"))
     # The first 1,000 quorums have the papers 0.0 to 0.3, 1.0 to 1.7 and 2.0 to 2.7, so one more is tried with each of 0.4 to 0.7.
     tried = FIRST + MEMBERS - NEEDED
@@ -39,7 +39,6 @@ def check_big(page, see):
     if "All quorums" in page.text():
         raise Failed("the page says that all quorums were tried")
     see("drill of too many quorums")
-    page.push(say("continue"))
     end(page)
 
 
@@ -81,13 +80,11 @@ def check_stop_drill(page, see):
     page.push(say("drill.start"))
     check_bar(page)
     page.push(say("stop"))
-    page.wait_title(say("drill.done"))
+    page.wait_title(say("check.done.stopped"))
     verdict = page.evaluate("document.querySelector('.verdict').innerText")
     if verdict.strip() != say("drill.part", tried=0, total=1):
         raise Failed(f"a drill that was stopped says {verdict!r}")
     see("a drill that was stopped")
-    page.push(say("continue"))
-    page.wait_title(say("check.done.stopped"))
     page.wait_text(say("check.stopped"))
     end(page)
 

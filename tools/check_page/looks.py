@@ -1,7 +1,7 @@
 """How the page looks: nothing wider than a narrow screen, contrast of each text, and what a hidden or a left page shows."""
 from browsers import Failed, browser
 from hands import Page
-from tasks import SOUND_PAPER, begin, choose_wallet, found_words, type_damaged, type_paper
+from tasks import SOUND_PAPER, begin, choose_wallet, create, found_words, type_damaged, type_paper
 from texts import say
 
 # The contrast that WCAG 2.2 asks for at level AA: of a text, and of a large one.
@@ -97,7 +97,7 @@ def check(name, url, see, opened=Page):
             page.choose(say("secret.new16"))
             page.tick(say("passphrase.none"))
             check_screen(page, f"{mode} secret", see)
-            page.push(say("make.create"))
+            create(page)
             page.wait_title(say("paper.title", name="0.0"))
             check_screen(page, f"{mode} paper", see)
             check_printed(page, unprinted)

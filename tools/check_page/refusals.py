@@ -172,7 +172,7 @@ def check_values(page, see):
 def check_digits(page, see):
     """Digits that stand for no secret, that differ, and that have another fingerprint than the noted one. No paper is shown."""
     changed_digits = SECRET[:-1] + "0"
-    other = plain.told(bytes.fromhex(changed_digits), True)
+    other, is_kept = plain.told(bytes.fromhex(changed_digits), True), False
     for digits, again, noted, text in [
         (SECRET[:-2], SECRET[:-2], FINGERPRINT, said(42, first=15)),
         (SECRET[:-1] + "g", SECRET[:-1] + "g", FINGERPRINT, say("secret.not_hex", place=32)),
@@ -183,13 +183,17 @@ def check_digits(page, see):
     ]:
         if not page.is_true("(it) => it.getAttribute('aria-checked') === 'true'", page.node("radio", say("secret.own"))):
             raise Failed("after a refusal, another secret is chosen")
-        type_digits(page, digits, again, noted)
-        for field in ("passphrase.label", "passphrase.again"):
-            page.fill(say(field), PASSPHRASE)
-        if noted == "":
-            page.go_to("textbox", say("noted.label"))
-            page.evaluate("document.activeElement.select()")
-            page.press("Backspace")
+        # What was typed before stays in its fields.
+        page.choose(say("secret.own"))
+        for field, text_of in [("secret.digits", digits), ("secret.again", again), ("noted.label", noted), ("passphrase.label", PASSPHRASE), ("passphrase.again", PASSPHRASE)]:
+            page.go_to("textbox", say(field))
+            if page.evaluate("document.activeElement.value") != text_of:
+                if is_kept and field.startswith("passphrase"):
+                    raise Failed("a refusal of digits empties the passphrase")
+                page.evaluate("document.activeElement.select()")
+                page.press("Backspace")
+                page.type(text_of)
+        is_kept = True
         page.push(say("make.create"))
         page.wait_text(text)
         if digits == changed_digits:
@@ -210,7 +214,6 @@ def check_mixed(page, see):
     page.wait_text(say("verdict.suspects.one", names="0.2"))
     page.wait_text(say("drill.mismatch", group=0))
     see("drill with a forged paper")
-    page.push(say("continue"))
     end(page)
     begin(page, "replace")
     page.choose(say("replace.destroyed"))
@@ -225,12 +228,12 @@ def check_mixed(page, see):
         paste(page, line)
         page.wait_text(say("collect.taken", name=f"0.{plain.parse(line.encode())['member']}"))
     page.push(say("collect.end"))
-    fill_plan(page, "3", {1: "1", 2: "2"})
-    page.push(say("continue"))
-    page.wait_text(say("replace.untold"))
     one, two, whole = counted(1, "paper"), counted(2, "paper"), counted(2, "whole")
-    page.wait_text(said(66, group=1, more=one, whole=whole, groups=1))
-    page.wait_text(said("66.fewer", group=2, more=two, fewer=one, whole=whole, groups=1))
+    for group, needed, text in [(1, "1", said(66, group=1, more=one, whole=whole, groups=1)), (2, "2", said("66.fewer", group=2, more=two, fewer=one, whole=whole, groups=1))]:
+        page.choose(say("which.paper", name=f"{group}.0"))
+        page.fill(say("which.needed"), needed, "spinbutton")
+        page.push(say("which.write"))
+        page.wait_text(f"{say('which.untold', name=f'{group}.0')} {text}")
     if "other groups" in page.text():
         raise Failed("the page tells an owner of 'other groups' in the engine's words")
     see("papers that the rest don't determine")
@@ -307,7 +310,6 @@ def check_recovery(page, see):
             if task == "check":
                 page.push(say("drill.start"))
                 page.wait_text(say("drill.mismatch", group=0) if "group 0" in text else say("drill.mismatch_groups"))
-                page.push(say("continue"))
                 page.wait_title(say("check.done.some"))
                 page.wait_text(say("verdict.nothing", quorums=counted(1, "quorum")))
                 page.push(say("collect.back"))
@@ -332,14 +334,6 @@ def check_long_line(page, _):
     page.wait_text(said(12, first=128))
     page.push(say("clear"))
     page.wait_title(say("home.title"))
-
-
-def fill_plan(page, members, others={1: "1", 2: "1"}):
-    """Types how many members group 0 has, and how many each other group has and needs."""
-    page.fill(say("replace.members", group=0), members, "spinbutton")
-    for group, number in others.items():
-        page.fill(say("replace.needed", group=group), number, "spinbutton")
-        page.fill(say("replace.members", group=group), number, "spinbutton")
 
 
 # Asks the engine through the page's own worker, and returns what the page says of each answer.

@@ -1,7 +1,7 @@
 """The ways back, what Enter does in a field that isn't a word's, and the questions for the plan of papers."""
 from browsers import Failed
-from refusals import fill_plan, paste
-from tasks import FINGERPRINT, PASSPHRASE, SOUND_PAPER, THREE_GROUPS, begin, choose_wallet, example, plain, read_paper
+from refusals import paste, said
+from tasks import FINGERPRINT, PASSPHRASE, SOUND_PAPER, THREE_GROUPS, begin, choose_wallet, create, example, plain, read_paper
 from texts import counted, say
 
 
@@ -12,7 +12,7 @@ def go_back(page, title, answer="back"):
 
 def check_first_steps(page, _):
     """The first screen of each task leads back to the choice of a task."""
-    for task in ("make", "check", "recover", "replace", "damaged", "what"):
+    for task in ("make", "check", "recover", "replace", "change", "damaged", "what"):
         begin(page, task)
         go_back(page, say("home.title"))
     begin(page, "replace")
@@ -78,67 +78,51 @@ def check_passphrase(page, _):
     page.wait_title(say("home.title"))
 
 
-def check_plan_of_papers(page, see):
-    """A plan that doesn't fit the papers is asked for again, with the reason. Members that only the owner knows may be wrong too."""
+def check_which(page, see):
+    """The page asks which paper is missing. A name that is here, or that no paper has, is asked for again, with the reason."""
     begin(page, "replace")
     page.choose(say("replace.destroyed"))
     page.push(say("continue"))
-    for line in THREE_GROUPS[:3]:
+    for line in [THREE_GROUPS[0], THREE_GROUPS[2], THREE_GROUPS[3]]:
         paste(page, line)
         share = plain.parse(line.encode())
         page.wait_text(say("collect.taken", name=f"{share['group']}.{share['member']}"))
     page.push(say("collect.end"))
-    few = say("replace.members.few", name="0.2", group=0, papers=counted(3, "paper"))
-    for members, text in [("2", few), ("99", say("replace.members.wrong")), ("3", say("replace.which"))]:
-        if members != "3":
-            fill_plan(page, members)
-        else:
-            page.go_to("spinbutton", say("replace.members", group=0))
-            page.evaluate("document.activeElement.select()")
-            page.type(members)
-        page.push(say("continue"))
-        page.wait(lambda: text in page.text() or text == page.title(), f"the text {text!r}")
-        if members == "2":
-            see("a plan that doesn't fit the papers")
-    page.push(say("clear"))
-    page.wait_title(say("home.title"))
-
-
-def check_wanted(page, see):
-    """Only the groups that are filled in are told of. A number of papers that isn't right can be given again."""
-    begin(page, "replace")
-    page.choose(say("replace.destroyed"))
-    page.push(say("continue"))
-    for line in THREE_GROUPS[:2]:
-        paste(page, line)
-        page.wait_text(say("collect.taken", name=f"0.{plain.parse(line.encode())['member']}"))
-    page.push(say("collect.end"))
-    page.wait_text(say("replace.groups"))
-    page.push(say("continue"))
-    page.wait_text(say("replace.members.wrong"))
-    # A field of a number has no value if that is no number.
-    for members, others, text in [("3e", {}, say("replace.members.wrong")), ("3", {1: "3e"}, say("replace.members.wrong")), ("3", {}, say("replace.found", names="0.2"))]:
-        for name in [say(f"replace.{it}", group=1) for it in ("needed", "members")] + [say("replace.members", group=0)]:
-            page.go_to("spinbutton", name)
-            page.evaluate("document.activeElement.select()")
-            page.press("Backspace")
-        fill_plan(page, members, others)
-        page.push(say("continue"))
-        page.wait_text(text)
-    for members, names in [("5", "0.2, 0.3, 0.4"), ("2", ""), ("3", "0.2")]:
-        page.push(say("back"))
-        page.wait_title(say("replace.plan.title"))
-        page.go_to("spinbutton", say("replace.members", group=0))
+    page.wait_title(say("replace.which"))
+    offered = page.evaluate("[...document.querySelectorAll('[role=radio] strong')].map((it) => it.textContent).join(', ')")
+    names = {f"{it['group']}.{it['member']}" for it in (plain.parse(line.encode()) for line in (THREE_GROUPS[0], THREE_GROUPS[2], THREE_GROUPS[3]))}
+    if names != {"0.0", "0.2", "1.0"} or offered != ", ".join([*(say("which.paper", name=name) for name in ("0.1", "0.3", "2.0")), say("which.other")]):
+        raise Failed(f"beside {names}, these papers are offered: {offered}")
+    page.push(say("which.write"))
+    page.wait_text(say("which.missing"))
+    page.choose(say("which.other"))
+    for typed, text in [("x", say("which.name.wrong")), ("0.2", say("which.here", name="0.2")), ("0.02", say("which.here", name="0.2")), ("1.1", say("which.only", group=1)), ("0.16", say("which.name.wrong")), ("3.0", said(64, first=3, second=0))]:
+        # After a refusal of the engine, the screen is a new one.
+        page.choose(say("which.other"))
+        page.go_to("textbox", say("which.name"))
         page.evaluate("document.activeElement.select()")
-        page.type(members)
-        page.push(say("continue"))
-        page.wait_text(say("replace.found", names=names) if names else say("replace.none.one", groups=0))
-        page.wait_text(say("replace.had" if names else "replace.had.all"))
-        page.wait_text(say("replace.said", group=0, papers=counted(int(members), "paper"), first="0.0", last=f"0.{int(members) - 1}"))
-    if "That takes" in page.text():
-        raise Failed("the page tells of papers of groups that aren't wanted")
-    see("missing papers of one group")
+        page.type(typed)
+        page.push(say("which.write"))
+        page.wait_text(text)
+    page.choose(say("which.other"))
+    page.go_to("textbox", say("which.name"))
+    page.type("2.0")
+    for needed in ("", "0", "17"):
+        page.go_to("spinbutton", say("which.needed"))
+        page.evaluate("document.activeElement.select()")
+        page.type(needed)
+        page.push(say("which.write"))
+        page.wait_text(say("which.needed.wrong"))
+    see("which paper is missing")
+    page.go_to("spinbutton", say("which.needed"))
+    page.evaluate("document.activeElement.select()")
+    page.type("1")
+    page.press("Enter")
+    page.wait_title(say("paper.title", name="2.0"))
+    if read_paper(page) != THREE_GROUPS[4]:
+        raise Failed("the paper that is written isn't the missing one")
     page.push(say("clear"))
+    page.push(say("clear.yes"))
     page.wait_title(say("home.title"))
 
 
@@ -153,9 +137,19 @@ def check_one_group(page, _):
     paste(page, papers[1])
     page.wait_text(say("replace.enough"))
     page.push(say("collect.end"))
-    page.fill(say("replace.members.only"), "3", "spinbutton")
+    page.choose(say("which.paper", name="0.1"))
+    page.push(say("which.write"))
+    page.wait_title(say("paper.title", name="0.1"))
+    page.push(say("clear"))
+    page.push(say("clear.yes"))
+    page.wait_title(say("home.title"))
+    begin(page, "replace")
+    page.choose(say("replace.destroyed"))
     page.push(say("continue"))
-    page.wait_text(say("replace.said.only", papers=counted(3, "paper"), first="0.0", last="0.2"))
+    paste(page, example("one-of-one.txt")[0])
+    page.wait_text(say("status.enough"))
+    page.push(say("collect.end"))
+    page.wait_text(say("replace.none"))
     page.push(say("clear"))
     page.wait_title(say("home.title"))
 
@@ -191,7 +185,7 @@ def check_chosen(page, see):
         page.wait_title(say(title))
     see("what was chosen stays")
     page.tick(say("passphrase.none"))
-    page.push(say("make.create"))
+    create(page)
     page.wait_title(say("paper.title", name="0.0"))
     share = plain.parse(read_paper(page).encode())
     if share["extendable"] or share["exponent"] != 3 or len(share["value"]) != 32:
@@ -201,4 +195,4 @@ def check_chosen(page, see):
     page.wait_title(say("home.title"))
 
 
-CHECKS = [check_first_steps, check_make, check_chosen, check_passphrase, check_plan_of_papers, check_wanted, check_one_group]
+CHECKS = [check_first_steps, check_make, check_chosen, check_passphrase, check_which, check_one_group]

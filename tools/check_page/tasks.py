@@ -83,6 +83,15 @@ def read_paper(page):
     return page.evaluate("[...document.querySelectorAll('.paper li')].map((it) => it.textContent).join(' ')")
 
 
+def create(page, is_noted=False):
+    """Makes the papers, and goes on to the first. `is_noted` says that the secret was compared with a noted fingerprint."""
+    page.push(say("make.create"))
+    page.wait_title(say("make.forms"))
+    if (say("secret.same") in page.text()) != is_noted:
+        raise Failed("the page doesn't say that the digits have the noted fingerprint, or says it of other ones")
+    page.push(say("forms.go"))
+
+
 def make(page, plan_label, wallet, words, passphrase, see, digits=None):
     """Makes a backup with a proposed plan. Returns its papers, and the fingerprint to note."""
     begin(page, "make")
@@ -99,7 +108,7 @@ def make(page, plan_label, wallet, words, passphrase, see, digits=None):
         page.fill(say("passphrase.label"), passphrase)
         page.fill(say("passphrase.again"), passphrase)
     see("secret")
-    page.push(say("make.create"))
+    create(page, digits is not None)
     papers = []
     while True:
         page.wait(lambda: page.title().startswith("Write down") or page.title() == say("back.begin.title"), "the next paper")
@@ -108,8 +117,6 @@ def make(page, plan_label, wallet, words, passphrase, see, digits=None):
         papers.append(read_paper(page))
         if len(papers) == 1:
             see("paper")
-            if digits is not None and say("secret.same") not in page.text():
-                raise Failed("the page doesn't say that the digits have the noted fingerprint")
         shown = page.title()
         page.push(say("paper.written"))
         page.wait(lambda: page.title() != shown, "the end of a paper")
@@ -163,11 +170,9 @@ def prove(page, passphrase, fingerprint, is_drawn, see):
         page.push(say("continue"))
         page.wait_text(say(text))
     page.push(say("drill.start"))
-    page.wait_title(say("drill.done"))
+    page.wait_title(say("make.done"))
     if not page.evaluate("Boolean(document.querySelector('.verdict .good'))") or fingerprint not in page.text():
         raise Failed("a backup that gives the noted secret isn't said to")
-    see("drill of a new backup")
-    page.push(say("continue"))
 
 
 def type_wrongly(page, words):
@@ -229,8 +234,6 @@ def check_papers(page, see):
     answer_passphrase(page, PASSPHRASE, FINGERPRINT)
     page.push(say("drill.start"))
     page.wait_text(say("verdict.all.noted", quorums=counted(7, "quorum"), fingerprint=FINGERPRINT))
-    see("drill")
-    page.push(say("continue"))
     page.wait_title(say("check.done.good"))
     if say("again") in page.text():
         raise Failed("a good result is offered to be tried again")
@@ -242,8 +245,6 @@ def check_papers(page, see):
     page.push(say("drill.start"))
     page.wait_text(say("verdict.other", quorums=counted(7, "quorum"), noted=FINGERPRINT))
     page.wait_text(say("drill.other"))
-    see("drill with a wrong passphrase")
-    page.push(say("continue"))
     page.wait_title(say("check.done.other"))
     page.wait_text(say("verdict.other", quorums=counted(7, "quorum"), noted=FINGERPRINT))
     page.wait_text(say("check.other"))
@@ -294,12 +295,10 @@ def check_replace(page, see):
         type_paper(page, line)
     page.wait_text(say("collect.taken", name="2.0"))
     page.push(say("collect.end"))
-    page.fill(say("replace.members", group=0), "3", "spinbutton")
-    see("plan of the papers")
-    page.push(say("continue"))
-    page.wait_text(say("replace.found", names="0.1, 0.2"))
-    see("missing papers")
-    page.push(say("replace.write", name="0.1"))
+    page.wait_title(say("replace.which"))
+    see("which paper is missing")
+    page.choose(say("which.paper", name="0.1"))
+    page.push(say("which.write"))
     if read_paper(page) != THREE_GROUPS[1]:
         raise Failed("the replaced paper isn't the lost one")
     page.push(say("paper.written"))
@@ -310,7 +309,6 @@ def check_replace(page, see):
     answer_passphrase(page, PASSPHRASE, None)
     page.push(say("drill.start"))
     page.wait_text(say("verdict.all.same", quorums=counted(3, "quorum"), fingerprint=FINGERPRINT))
-    page.push(say("continue"))
     page.wait_title(say("check.done.same"))
     page.wait_text(say("noted.first"))
     if say("check.done.good") in page.text() or say("again") not in page.text():
@@ -320,9 +318,12 @@ def check_replace(page, see):
     begin(page, "replace")
     page.choose(say("replace.other"))
     page.push(say("continue"))
-    page.wait_text(say("replace.new.make"))
+    page.wait_text(say("replace.new.change"))
     see("a new backup instead")
-    end(page)
+    page.push(say("replace.new.change.go"))
+    page.wait_title(say("change.title"))
+    page.push(say("back"))
+    page.wait_title(say("home.title"))
 
 
 def type_damaged(page, line):
@@ -333,7 +334,7 @@ def type_damaged(page, line):
 
 def found_words(page):
     """Returns the words that the page found, each after its number, a line for each paper that fits."""
-    script = "[...document.querySelectorAll('.fit .rows')].map((it) => [...it.children].map((row) => row.innerText.replace(/\\s+/g, ' ')).join(', ')).join('\\n')"
+    script = "[...document.querySelectorAll('.fit .rows')].map((it) => [...it.children].map((row) => row.innerText.replace(/\\s+/g, ' ').trim()).join(', ')).join('\\n')"
     return page.evaluate(script)
 
 
@@ -378,7 +379,6 @@ def check_damaged(page, see):
     answer_passphrase(page, PASSPHRASE, FINGERPRINT)
     page.push(say("drill.start"))
     page.wait_text(say("verdict.all.noted", quorums=counted(1, "quorum"), fingerprint=FINGERPRINT))
-    page.push(say("continue"))
     end(page)
 
 

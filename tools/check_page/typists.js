@@ -12,9 +12,18 @@
     return count;
   };
   const SHORT = { least, four: () => 4, whole: (word) => word.length };
-  const entry = new in_paper_entry.PaperEntry(list, 21, async () => ({ isTaken: false, text: "" }));
+  const isInTurn = way.startsWith("in turn");
+  // What stood in the fields when a paper was read.
+  let taken = null;
+  const onPaper = async () => {
+    taken = shown();
+    return { isTaken: isInTurn, text: "" };
+  };
+  // If papers aren't read, one more field takes what is typed after the last word.
+  const entry = new in_paper_entry.PaperEntry(list, isInTurn ? 20 : 21, onPaper);
   document.getElementById("main").replaceChildren(entry.element);
   const fields = () => [...entry.element.querySelectorAll(".word input")];
+  const shown = () => fields().map((field) => field.value);
   const letter = (sign) => {
     const field = document.activeElement;
     field.value += sign;
@@ -30,23 +39,39 @@
     else if (end) named(end);
   };
   const ENDS = ["space", "Enter", "Tab", "nothing"];
-  const typed = (word) => {
-    const [short, end] = way === "mixed" ? [Object.keys(SHORT)[below(3)], ENDS[below(4)]] : way.split(", ");
+  const wayOf = (paper) => {
+    if (way === "mixed") return [Object.keys(SHORT)[below(3)], ENDS[below(4)]];
+    return isInTurn ? [paper % 2 ? "four" : "whole", "space"] : way.split(", ");
+  };
+  const typed = (word, paper) => {
+    const [short, end] = wayOf(paper);
     type(word, SHORT[short](word), end === "space" ? " " : end === "nothing" ? "" : end);
   };
   const found = { right: 0, told: 0, silent: 0, examples: [] };
+  let last = "";
   for (let paper = 0; paper < papers; paper += 1) {
-    in_word_field.forgetTyping();
+    if (paper === 0 || !isInTurn) in_word_field.forgetTyping();
+    taken = null;
     entry.clear();
     entry.focus();
     const words = Array.from({ length: 20 }, () => list[below(list.length)]);
-    for (const word of words) typed(word);
-    const shown = fields().map((field) => field.value);
+    // The next paper begins with the letter that wasn't typed of the last word.
+    if (isInTurn && paper % 2) words[19] = list.find((word, at) => word.length === 5 && at >= below(list.length)) ?? "crowd";
+    if (isInTurn && last[4]) words[0] = list.filter((word) => word.startsWith(last[4])).at(below(10)) ?? words[0];
+    last = words[19].length === 5 ? words[19] : "";
+    for (const word of words) typed(word, paper);
+    // The answer to a paper comes after what called for it.
+    if (isInTurn) await new Promise((resolve) => setTimeout(resolve));
+    const came = taken ?? shown();
     // The field after the last word may hold letters of it.
-    const isRight = words.every((word, at) => shown[at] === word);
-    const isTold = entry.element.querySelector(".word.wrong, .word.doubt, .answer.fault") !== null || shown.slice(0, 20).includes("");
+    const isRight = words.every((word, at) => came[at] === word);
+    const isMarked = entry.element.querySelector(".word.wrong, .word.doubt, .answer.fault") !== null;
+    // A field that is empty, or whose letters are no word, is named when the paper is read.
+    const isTold = isMarked || came.slice(0, 20).some((word) => !list.includes(word));
     found[isRight ? "right" : isTold ? "told" : "silent"] += 1;
-    if (!isRight && found.examples.length < 3) found.examples.push(`${words.join(" ")} => ${shown.join(" ")}`);
+    const example = `${isTold ? "told" : "silent"}: ${words.join(" ")} => ${came.join(" ")}`;
+    if (!isRight && !isTold) found.examples.unshift(example);
+    else if (!isRight && found.examples.length < 3) found.examples.push(example);
   }
   return JSON.stringify(found);
 })

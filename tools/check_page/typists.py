@@ -2,7 +2,7 @@
 
     python3 tools/check_page/typists.py [--papers N] [--browser NAME] [--page FILE] [WAY..]    500 papers in each way, if N isn't given
 
-A paper that isn't as it was typed is told if the page marks a word, or leaves a field empty, so that the owner sees it. If nothing but
+A paper that isn't as it was typed is told if the page marks a word, or if a field has no word of the list, so that the owner sees it. If nothing but
 the checksum would show it, it goes wrong silently, and the check fails.
 """
 import argparse
@@ -19,8 +19,9 @@ from tasks import plain  # noqa: E402
 from texts import ROOT, say  # noqa: E402
 
 SCRIPT = (pathlib.Path(__file__).resolve().parent / "typists.js").read_text()
-# How much of each word is typed, and what follows it. In the last one, both change from word to word.
-WAYS = [f"{short}, {end}" for short in ("least", "four", "whole") for end in ("nothing", "space", "Enter", "Tab")] + ["mixed"]
+# How much of each word is typed, and what follows it. In turn, one paper is typed whole, and of the next one four letters of each word. In the
+# last one, both change from word to word.
+WAYS = [f"{short}, {end}" for short in ("least", "four", "whole") for end in ("nothing", "space", "Enter", "Tab")] + ["in turn, space", "mixed"]
 # With a key after each word, all papers must be right.
 SURE = [way for way in WAYS if way.endswith((", space", ", Enter", ", Tab"))]
 PAPERS = 500
@@ -34,16 +35,22 @@ def measured(page, way, papers):
     for done in range(0, papers, PART):
         found = json.loads(page.evaluate(f"{SCRIPT.strip()}({json.dumps(plain.WORDS)}, {json.dumps(way)}, {min(PART, papers - done)}, {done + 1})"))
         all_found = {key: value + found[key] for key, value in all_found.items()}
+    # Those that nothing but the checksum would show come first.
+    all_found["examples"].sort(key=lambda it: it.startswith("told"))
     return all_found
 
 
 def check(page, _, papers=FEW, ways=WAYS, tell=lambda text: None):
     """No paper goes wrong silently, and none at all that is typed in a sure way."""
+    page.wait_title(say("home.title"))
+    wrong = {}
     for way in ways:
         found = measured(page, way, papers)
         tell(f"{way}: {found['right']} right, {found['told']} told, {found['silent']} silent {found['examples'][:2]}")
         if found["silent"] or (way in SURE and found["told"]):
-            raise Failed(f"papers that are typed so ({way}) go wrong: {found}")
+            wrong[way] = found
+    if wrong:
+        raise Failed(f"papers that are typed so go wrong: {wrong}")
     page.call("browsingContext.reload", wait="complete")
     page.wait_title(say("home.title"))
 

@@ -8,7 +8,7 @@ import tempfile
 
 from hands import ROOT, Failed, counted, say
 from refusals import changed
-from tasks import Owner, make, name_of, paper_prompt
+from tasks import Owner, change, expect_same, make, name_of, paper_prompt
 
 import plain
 
@@ -123,7 +123,8 @@ def compare_recover(case):
         owner.passphrase(case.passphrase, "")
         if status:
             owner.wait(say("next.papers"))
-            owner.expect(say("refused.number", told="", code=re.search(r"\d+", message)[0]).strip())
+            code, *group = re.findall(r"\d+", message)
+            owner.expect(say(f"refused.{code}", first=group[0]) if group else say(f"refused.{code}.groups"))
             owner.type("\x03")
             owner.end(130)
             return None
@@ -135,54 +136,58 @@ def compare_recover(case):
         owner.end(130)
 
 
-def questions_of(case, rest, lost):
-    """Returns what the owner is asked about the plan, with the answers: the group of the lost paper, and how many papers it has, or, if
-    none of them is here, how many it needs."""
-    groups, here = re.findall(r"(\d+)of(\d+)", case.plan), {name_of(line).split(".")[0] for line in rest}
-    group = name_of(lost).split(".")[0]
-    needed, members = groups[int(group)]
-    found = [(say("replace.groups.ask"), group)] if len(groups) > 1 else []
-    if group not in here:
-        return [*found, (say("replace.ask.needed", group=group), needed)]
-    if needed == "1":
-        return found
-    return [*found, (say("replace.ask", needed=needed) if len(groups) == 1 else say("replace.ask.group", group=group, needed=needed), members)]
-
-
 def compare_replace(case):
-    """Writes the first missing paper again, as `reissue` does, or hears why not."""
+    """Writes a missing paper again, as `reissue` does, or hears why not."""
     lost = case.source.choice(case.papers)
     rest = [line for line in case.papers if line != lost]
     if not rest:
         return compare_check(case)
     output, message, status = case.told(["reissue", case.plan, name_of(lost)], case.input(rest))
+    groups, group = re.findall(r"(\d+)of", case.plan), int(name_of(lost).split(".")[0])
+    choose = say("replace.choose" if len(groups) > 1 else "replace.choose.only")
     with Owner("replace") as owner:
         owner.wait(say("safety.go"))
         owner.answer(say("safety.go"), "")
         owner.answer(say("replace.how"), "1")
         owner.prepare = lambda: None
         collect(owner, case, rest)
-        questions = questions_of(case, rest, lost)
-        asked = owner.wait(say("more.papers"), *[prompt for prompt, _ in questions[:1]], say("replace.choose"))
-        if asked == say("more.papers"):
+        if owner.wait(say("more.papers"), choose) == say("more.papers"):
             if status == 0:
                 raise Failed(f"{case.plan}: ./shamir writes a paper that the dialogue calls undetermined")
             owner.type("\x03")
             return owner.end(130)
-        for prompt, answer in questions:
-            owner.answer(prompt, answer)
-        owner.wait(say("replace.choose"))
+        owner.answer(choose, name_of(lost))
+        if group not in [int(name_of(line).split(".")[0]) for line in rest]:
+            owner.answer(say("which.ask.needed", group=group), groups[group])
         if status == 0:
-            owner.expect(say("replace.found", names=name_of(lost)))
-            owner.answer(say("replace.choose"), name_of(lost))
             owner.wait(say("new.write"))
             if owner.words() != output.strip():
                 raise Failed(f"{case.plan}: the dialogue writes another paper than ./shamir")
         else:
-            owner.expect(say("replace.untold"))
-            owner.expect(f"{name_of(lost)}: ")
+            owner.wait(choose)
+            owner.expect(say("which.untold", name=name_of(lost)))
         owner.type("\x03")
         owner.end(130)
+
+
+def compare_change(case):
+    """Makes papers of another plan. ./shamir recovers from them what the old papers give, and with another passphrase too if the backup is
+    extendable."""
+    plan, is_extendable = case.source.choice(PLANS), bool(plain.parse(case.papers[0].encode())["extendable"])
+    old = case.source.sample(case.papers, len(case.papers))
+    with Owner("change") as owner:
+        collect(owner, case, old)
+        if not is_extendable:
+            owner.passphrase(case.passphrase, case.noted)
+        papers = change(owner, plan, "" if is_extendable else case.source.choice("123"))
+        owner.passphrase(case.passphrase, case.noted)
+        owner.wait(say("screen.end"))
+        owner.type("\x03")
+        owner.end(130)
+    before, after = [case.told(["recover", "--fingerprint"], case.input(lines)) for lines in (old, papers)]
+    if before != after or before[0].strip() != case.noted:
+        raise Failed(f"{case.plan} to {plan}: ./shamir recovers another secret from the new papers")
+    expect_same(owner, old, papers, [case.passphrase, "another"] if is_extendable else [case.passphrase])
 
 
 def compare_repair(case):
@@ -214,7 +219,7 @@ def compare_new(case):
         raise Failed(f"{case.plan}: ./shamir recovers another secret from papers of the dialogue")
 
 
-COMPARE = [compare_check, compare_check, compare_check, compare_recover, compare_replace, compare_repair, compare_new]
+COMPARE = [compare_check, compare_check, compare_check, compare_recover, compare_replace, compare_change, compare_repair, compare_new]
 
 
 def compare(number):

@@ -65,7 +65,7 @@ def check_left_out():
                 number = 7 - left
                 owner.type_paper(paper_prompt(number), more)
                 owner.reply(paper_prompt(number + 1), "")
-        owner.answer(say("next.good"), "")
+        owner.answer(say("next.good"), "e")
         owner.end(0)
 
 
@@ -94,8 +94,7 @@ def check_pasted_papers():
                 owner.wait(paper_prompt(1))
                 owner.type("".join(f"{end}{line}{end}" for line in papers) + last)
                 owner.wait(paper_prompt(4))
-                for name in ("0.0", "0.1", "0.2"):
-                    owner.expect(say("collect.taken", name=name))
+                owner.expect(say("paste.taken", names="0.0, 0.1, 0.2"))
                 silent(owner, say("collect.none"))
                 while owner.pull(0.2):
                     pass
@@ -111,12 +110,10 @@ def check_replace_again():
     with started("replace") as owner:
         owner.answer(say("replace.how"), "1")
         owner.collect(papers[:2])
-        owner.answer(say("replace.ask", needed=2), "3")
-        owner.answer(say("replace.choose"), "0.2")
+        owner.answer(say("replace.choose.only"), "0.2")
         owner.answer(say("new.write"), "")
         owner.type_paper(say("back.ask", name="0.2"), papers[2])
-        owner.answer(say("replace.choose"), "b")
-        owner.answer(say("replace.ask", needed=2), "b")
+        owner.answer(say("replace.choose.only"), "b")
         for number in (4, 3, 2):
             owner.answer(paper_prompt(number), f"{SIGN}0.{number - 2}")
         owner.answer(paper_prompt(1), "b")
@@ -148,17 +145,16 @@ def check_too_few():
 
 
 def check_instead():
-    """A new backup in place of an old one: old papers may still give another wallet, and a recovery may be impossible."""
+    """New papers in place of a lost one: the owner is told of the task that makes them, and that it may be of no use."""
     with started("replace") as owner:
         owner.answer(say("replace.how"), "2")
-        owner.answer(say("screen.end.back"), "b")
-        owner.answer(say("home.choose"), "replace")
+        owner.answer(say("replace.new.choose"), "")
+        owner.answer(say("replace.new.choose"), "b")
         owner.answer(say("replace.how"), "2")
-        owner.wait(say("screen.end.back"))
-        owner.expect("so write the steps down first:")
-        owner.expect("But keep the old papers if a wallet uses them with another passphrase")
+        owner.wait(say("replace.new.choose"))
+        owner.expect("'Change the plan' (change) writes new papers from those that you have")
         owner.expect("or if you don't have enough of them to recover it. Then make a new wallet while the old one still works")
-        owner.answer(say("screen.end.back"), "")
+        owner.answer(say("replace.new.choose"), "e")
         owner.end(0)
 
 
@@ -168,6 +164,7 @@ def check_letter():
     back = f"{say('passphrase.back')} {say('screen.yes.back')}"
     papers = papers_of("1of1")
     with started("new", "1of1") as owner:
+        owner.settle()
         owner.answer(say("new.secret"), "")
         owner.answer(first, "b")
         owner.answer(back, "b")
@@ -175,6 +172,9 @@ def check_letter():
         owner.answer(first, "x" * 2001)
         owner.wait(first)
         owner.expect(say("screen.long"))
+        owner.answer(first, "x" * 1025)
+        owner.wait(first)
+        owner.expect(say("new.passphrase.long", most="1,024"))
         owner.answer(first, "B")
         owner.answer(back, "n")
         owner.answer(first, "TREZOR ")
@@ -188,12 +188,13 @@ def check_letter():
         owner.answer(say("screen.next"), "")
         owner.answer(say("back.ask", name="0.0"), line)
         owner.answer(say("noted.done"), "")
+        owner.prove(owner.noted(), "b")
         owner.wait(say("screen.end"))
         owner.expect("This backup has a passphrase: keep it in another place.")
         owner.expect(say("make.note", plan="1of1"))
         if b"TREZOR" in owner.raw:
             raise Failed("a passphrase shows that was typed in place of an answer")
-        owner.answer(say("screen.end"), "")
+        owner.answer(say("screen.end"), "e")
         owner.end(0)
     if name_of(line) != "0.0" or fingerprint_of([line], "b") == fingerprint_of([line], ""):
         raise Failed("the passphrase isn't the letter")
@@ -208,7 +209,7 @@ def check_letter():
             owner.answer(say("noted.ask"), fingerprint_of(papers, "b"))
             if task == "recover":
                 owner.answer(f"{say('recover.show')} (y/n)", "n")
-            owner.answer(say("next.good"), "")
+            owner.answer(say("next.good"), "e")
             owner.end(0)
 
 
@@ -227,6 +228,7 @@ def check_without():
         owner.wait(say("new.plan.choose"))
         owner.expect("This isn't a plan. Plans are typed so: 2of3")
         owner.answer(say("new.plan.choose"), "1of1")
+        owner.settle()
         owner.answer(say("new.secret"), "")
         owner.answer(say("new.passphrase"), "")
         owner.answer(f"{say('new.passphrase.none')} {say('screen.yes.back')}", "y")
@@ -236,14 +238,15 @@ def check_without():
         silent(owner, "Type the words in their order")
         owner.answer(say("back.ask", name="0.0"), line)
         owner.wait(say("noted.done"))
-        owner.expect("A quorum is a set of papers that is just enough.")
         silent(owner, "helps to guess the passphrase")
         owner.answer(say("noted.done"), "")
+        owner.prove(owner.noted(), "")
         owner.wait(say("screen.end"))
+        owner.expect("A quorum is a set of papers that is just enough.")
         owner.expect("This backup has no passphrase.")
         owner.expect("This paper alone recovers the secret, so keep it where nobody finds it.")
         silent(owner, "if there is one, in another place")
-        owner.answer(say("screen.end"), "")
+        owner.answer(say("screen.end"), "e")
         owner.end(0)
 
 
@@ -300,31 +303,26 @@ def check_back():
 
 
 def check_lost():
-    """The only paper of a group without which nothing is recovered: nothing else gives it. No paper of a group is said to be missing when
-    others are, and no number of papers is made of a forgotten one."""
+    """The only paper of a group without which nothing is recovered: nothing else gives it."""
     papers = papers_of(PLAN)
     with started("replace") as owner:
         owner.answer(say("replace.how"), "1")
         owner.collect(papers[:4])
-        owner.answer(say("replace.groups.ask"), "1")
-        owner.answer(say("replace.ask.needed", group=1), "1")
+        owner.answer(say("replace.choose"), "1.0")
+        owner.answer(say("which.ask.needed", group=1), "1")
         owner.wait(say("replace.choose"))
-        owner.expect("1.0: No other papers give it. If your wallet still works, make a new wallet, and move your money to it.")
+        owner.expect(f"{say('which.untold', name='1.0')} No other papers give it. If your wallet still works, make a new wallet, and move your money to it.")
         silent(owner, "Or it takes")
-        owner.answer(say("replace.choose"), "b")
-        owner.answer(say("replace.groups.ask"), "0")
-        owner.answer(say("replace.ask.group", group=0, needed=3), "5")
         owner.answer(say("replace.choose"), "0.4")
         owner.answer(say("new.write"), "")
         owner.type_paper(say("back.ask", name="0.4"), papers[4])
         owner.wait(say("replace.choose"))
-        owner.expect("No paper of group 0 is missing: you typed all of them.")
         owner.type("\x03")
         owner.wait(END)
         owner.expect("destroy only a paper written now and not typed back. Keep all others: your old ones, and those typed back.")
         owner.answer(END, "n")
         owner.forget()
-        owner.answer(say("replace.choose"), "")
+        owner.answer(say("replace.choose"), "d")
         owner.wait(say("more.papers"))
         owner.expect(say("replace.done"))
         silent(owner, say("replace.few"))
@@ -334,24 +332,15 @@ def check_lost():
         owner.passphrase("", fingerprint_of(papers[:3] + papers[5:], ""))
         owner.wait(say("next.good"))
         owner.expect(say("check.done.good"))
-        owner.answer(say("next.good"), "")
+        owner.answer(say("next.good"), "e")
         owner.end(0)
-    with started("replace") as owner:
-        two = papers_of("2of3")
-        owner.answer(say("replace.how"), "1")
-        owner.collect(two[:2])
-        owner.answer(say("replace.ask", needed=2), "16")
-        owner.answer(say("replace.choose"), "0.2")
-        owner.wait(say("new.write"))
-        owner.expect(say("takes.papers", needed=2))
-        silent(owner, "of the 16 papers")
-        end_by_keys(owner)
 
 
 def check_unsaid():
     """What a terminal that can't be cleared does, a passphrase that wasn't typed, and a paper of another backup."""
     with Owner("new", "1of1", TERM="dumb") as owner:
         owner.prepare()
+        owner.settle()
         owner.answer(say("new.secret"), "")
         owner.answer(say("new.passphrase"), "")
         owner.answer(f"{say('new.passphrase.none')} {say('screen.yes.back')}", "y")
@@ -391,6 +380,7 @@ def check_size():
     """A terminal that gets another size shows a paper anew, and any other screen as it was."""
     with Owner("new", "1of1", columns=80, rows=24) as owner:
         owner.prepare()
+        owner.settle()
         owner.answer(say("new.secret"), "")
         owner.answer(say("new.passphrase"), "")
         owner.answer(f"{say('new.passphrase.none')} {say('screen.yes.back')}", "y")
@@ -402,10 +392,11 @@ def check_size():
             if owner.words() != words:
                 raise Failed(f"with {columns} columns, the words of a paper are {owner.words()!r}")
         owner.resize(40, 12)
-        while owner.pull(0.5):
-            pass
+        owner.wait_full()
+        owner.forget()
         owner.resize(80, 24)
-        owner.wait(say("new.write"))
+        # Nothing is typed where the screen was full.
+        owner.expect(say("new.write"))
         if owner.words() != words:
             raise Failed("after the terminal was small, words of a paper are missing")
         owner.answer(say("new.write"), "")

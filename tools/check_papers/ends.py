@@ -9,7 +9,7 @@ import sys
 import termios
 
 from hands import BINDING, END, PATIENCE, Failed, Interrupted, Session, environment, habits, say
-from tasks import FINGERPRINT, PASSPHRASE, THREE_GROUPS, Owner, check_check, check_new, check_recover, check_repair, check_replace, paper_prompt
+from tasks import FINGERPRINT, PASSPHRASE, THREE_GROUPS, Owner, check_change, check_check, check_new, check_recover, check_repair, check_replace, check_what, paper_prompt
 
 import plain
 
@@ -56,7 +56,7 @@ def questions_of(task):
 def check_keys(see):
     """Ctrl-C and Ctrl-D at each question of each task: nothing is kept, and the terminal is as before."""
     papers, noted = check_new(see)
-    tasks = [lambda: check_new(see), *(lambda it=it: it(papers, noted) for it in (check_check, check_recover, check_replace, check_repair))]
+    tasks = [lambda: check_new(see), *(lambda it=it: it(papers, noted) for it in (check_check, check_recover, check_replace, check_change, check_repair, check_what))]
     with concurrent.futures.ThreadPoolExecutor(AT_ONCE) as pool:
         numbers = list(pool.map(questions_of, tasks))
         jobs = [(task, number, "\x03" if at % 3 else "\x04") for task, found in zip(tasks, numbers) for at, number in enumerate(found)]
@@ -91,12 +91,19 @@ def check_signals():
             owner.end(status)
 
 
+def stop(owner):
+    """Presses Enter while the library works. The work goes on if that isn't meant."""
+    for answer in ("n", "y"):
+        owner.type("\n")
+        owner.answer(f"{say('work.sure')} (y/n)", answer)
+
+
 def check_work():
     """Ctrl-C while the library works for long, and Enter, which stops a drill."""
     with Owner("new", "2of3") as owner:
         owner.prepare()
+        owner.settle()
         owner.answer(say("new.secret"), "m")
-        owner.answer(say("new.flag"), "")
         owner.answer(say("new.exponent"), "15")
         owner.answer("Is that right? (y/n)", "y")
         owner.answer(say("new.secret"), "1")
@@ -105,7 +112,8 @@ def check_work():
         while "so far" not in owner.screen():
             owner.pull(1)
         owner.expect(say("time.about", time="").rstrip(" ."))
-        owner.type("\n")
+        owner.expect("left. This is an estimate.")
+        stop(owner)
         owner.wait(say("new.secret"))
         owner.expect(say("make.stopped"))
         owner.answer(say("new.secret"), "1")
@@ -125,7 +133,9 @@ def check_stopped_drill():
         owner.passphrase("", "01234567")
         while "so far" not in owner.screen():
             owner.pull(1)
-        owner.type("\n")
+        owner.type("x")
+        owner.expect(say("work.key"))
+        stop(owner)
         owner.wait(say("next.again"))
         owner.expect(say("check.done.stopped"))
         owner.expect(say("drill.part", tried=0, total=4))
@@ -138,17 +148,19 @@ def check_unproved():
     """A new backup whose drill was stopped is no finished one, and the program says so at its end."""
     with Owner("new", "1of1") as owner:
         owner.prepare()
+        owner.settle()
         owner.answer(say("new.secret"), "m")
-        owner.answer(say("new.flag"), "y")
         owner.answer(say("new.exponent"), "9")
         owner.answer("Is that right? (y/n)", "y")
-        line = first_paper(owner)
+        line = first_paper(owner, settles=False)
         owner.answer(say("new.write"), "")
         owner.answer(say("screen.next"), "")
         owner.answer(say("back.ask", name="0.0"), line)
+        owner.answer(say("noted.done"), "")
+        owner.prove(owner.noted(), PASSPHRASE)
         while "so far" not in owner.screen():
             owner.pull(1)
-        owner.type("\n")
+        stop(owner)
         owner.wait(say("make.failed.again"))
         owner.expect(say("make.unproved"))
         owner.answer(say("make.failed.again"), "e")
@@ -196,6 +208,7 @@ def check_closed():
         owner.wait(paper_prompt(1))
         os.close(owner.theirs)
         os.close(owner.ours)
+        owner.theirs = owner.ours = -1  # another thread may get these numbers
         if owner.run.wait(PATIENCE) != -signal.SIGHUP:
             raise Failed(f"a closed terminal ends the program with status {owner.run.returncode}")
 
@@ -222,7 +235,18 @@ def check_no_terminal():
 
 
 def check_menu():
-    """Without a task, the program asks for one, by its number or its word."""
+    """Without a task, the program asks for one, by its number or its word. Help answers questions."""
+    with Owner() as owner:
+        owner.prepare()
+        owner.answer(say("home.choose"), "h")
+        owner.answer(say("help.choose"), "")
+        owner.answer(say("help.choose"), "4")
+        owner.wait(say("help.choose"))
+        owner.expect(f"{say('help.lost')} {say('help.lost.answer')}")
+        owner.answer(say("help.choose"), "b")
+        owner.wait(say("home.choose"))
+        owner.type("\x04")
+        owner.end(130)
     for answer in ("2", "check"):
         with Owner() as owner:
             owner.prepare()
@@ -254,8 +278,10 @@ def leave(owner, keys, status, said, is_asked=True):
         raise Failed(f"the program asked before it ended: {owner.was_asked}")
 
 
-def first_paper(owner):
+def first_paper(owner, settles=True):
     """Makes a backup, and returns the first paper that is shown."""
+    if settles:
+        owner.settle()
     owner.answer(say("new.secret"), "")
     owner.answer(say("new.passphrase"), PASSPHRASE)
     owner.answer(say("new.passphrase.again"), PASSPHRASE)
@@ -271,6 +297,11 @@ def made_until(owner, prompt):
         owner.wait(ask)
         if ask == prompt:
             return
+        if ask == say("noted.done"):
+            found = owner.noted()
+            owner.answer(ask, "")
+            owner.prove(found, PASSPHRASE)
+            continue
         if typed:
             half = len(line) // 2
             owner.type(typed[:half])
@@ -292,7 +323,7 @@ def check_written():
             leave(owner, "\x03", 130, "ended.unfinished")
     with Owner("new", "1of1") as owner:
         made_until(owner, say("noted.done"))
-        leave(owner, "\x04", 130, "ended.made")
+        leave(owner, "\x04", 130, "ended.unfinished")
     with Owner("new", "1of1") as owner:
         made_until(owner, say("screen.end"))
         leave(owner, "\x03", 130, "ended.made", False)
@@ -322,14 +353,12 @@ def check_written_again():
             owner.prepare()
             owner.answer(say("replace.how"), "1")
             owner.collect([THREE_GROUPS[0], *THREE_GROUPS[3:]])
-            owner.answer(say("replace.groups.ask"), "0")
-            owner.answer(say("replace.ask.group", group=0, needed=2), "2")
             owner.answer(say("replace.choose"), "0.1")
             owner.answer(say("new.write"), "")
             owner.answer(say("back.ask", name="0.1"), THREE_GROUPS[1])
             owner.wait(say("replace.choose"))
             if is_drilled:
-                owner.answer(say("replace.choose"), "")
+                owner.answer(say("replace.choose"), "d")
                 owner.passphrase(PASSPHRASE, FINGERPRINT)
                 owner.wait(say("next.good"))
             leave(owner, "\x03", 130, "ended.replaced", not is_drilled)
@@ -340,21 +369,23 @@ def check_held_drill():
     """Ctrl-C while the drill of a new backup runs: the drill goes on if the owner stays."""
     with Owner("new", "1of1") as owner:
         owner.prepare()
+        owner.settle()
         owner.answer(say("new.secret"), "m")
-        owner.answer(say("new.flag"), "y")
         owner.answer(say("new.exponent"), "8")
         owner.answer("Is that right? (y/n)", "y")
-        line = first_paper(owner)
+        line = first_paper(owner, settles=False)
         owner.answer(say("new.write"), "")
         owner.answer(say("screen.next"), "")
         owner.answer(say("back.ask", name="0.0"), line)
+        owner.answer(say("noted.done"), "")
+        owner.prove(owner.noted(), PASSPHRASE)
         owner.expect(say("time.long", exponent=8, time="").split("about")[0])
         owner.type("\x03")
         owner.wait(END)
         owner.expect(say("end.unfinished"))
         owner.answer(END, "n")
-        owner.wait(say("noted.done"))
-        leave(owner, "\x03", 130, "ended.made")
+        owner.wait(say("screen.end"))
+        leave(owner, "\x03", 130, "ended.made", False)
 
 
 CHECKS = [

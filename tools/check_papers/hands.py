@@ -25,7 +25,7 @@ PATIENCE = 30
 MORE = say("screen.more") + " "
 END = f"{say('end.ask')} (y/n)"
 # What the program says of the papers if it ends before the task does.
-ENDS = ["ended", *(f"ended.{it}" for it in ("unfinished", "made", "replaced", "repaired"))]
+ENDS = ["ended", *(f"ended.{it}" for it in ("unfinished", "changing", "made", "replaced", "repaired"))]
 
 
 class Failed(Exception):

@@ -5,11 +5,11 @@ import re
 
 from emulator import Emulator
 from hands import Failed, habits, say
-from tasks import check_check, check_new, check_recover, check_repair, check_replace
+from tasks import check_change, check_check, check_new, check_recover, check_repair, check_replace, check_what
 
 from shamir.papers.line import Line
 
-TASKS = [check_check, check_recover, check_replace, check_repair]
+TASKS = [check_check, check_recover, check_replace, check_change, check_repair, check_what]
 
 
 def gone_through(look, **how):

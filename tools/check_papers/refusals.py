@@ -3,6 +3,7 @@ from hands import Failed, counted, say
 from tasks import FINGERPRINT, PASSPHRASE, SIGN, SOUND_PAPER, THREE_GROUPS, Owner, example, fingerprint_of, name_of, paper_prompt
 
 import plain
+from shamir.papers.entry import said_count
 
 TWO = example("two-needed.txt")
 # Published vectors of SLIP-0039. In the first, word 20 is wrong.
@@ -46,8 +47,8 @@ def back_prompt(number):
     return say("entry.word.back", number=number, sign=SIGN)
 
 
-def started(task, *words):
-    owner = Owner(task, *words)
+def started(task, *words, **how):
+    owner = Owner(task, *words, **how)
     owner.prepare()
     return owner
 
@@ -60,9 +61,14 @@ def check_words():
         owner.answer(paper_prompt(1), " ".join(words))
         owner.answer(word_prompt(3), "acdmic")
         owner.expect("Word 3, acdemic, isn't in the word list (academic")
-        owner.answer(word_prompt(3), "academic agency")
-        owner.answer(f"{word_prompt(3)} academic agency", f"{ERASE}ACADemic")
-        owner.expect(say("entry.one", number=3))
+        for short in ("4", "academic agency"):
+            owner.forget()
+            owner.answer(word_prompt(3), short)
+            owner.wait(word_prompt(3))
+            owner.expect(say("entry.one", number=3))
+        owner.answer(word_prompt(3), "academic agency acid")
+        owner.answer(f"{word_prompt(3)} academic agency acid", f"{ERASE}ACADemic")
+        owner.expect(f"{say('entry.one', number=3)} {say('entry.stays')}")
         owner.answer(word_prompt(11), "")
         owner.answer(word_prompt(11), "11. coal")
         owner.wait(paper_prompt(2))
@@ -94,7 +100,11 @@ def check_checksum():
         owner.wait(NUMBERED)
         owner.expect(say("refused.13"))
         owner.answer(NUMBERED, "30 acid")
-        owner.answer(f"{NUMBERED} 30 acid", f"{ERASE}7 leng 8 solu")
+        owner.answer(NUMBERED, "30 acid 31")
+        # The sign counts behind what stands in the line, too.
+        owner.answer(f"{NUMBERED} 30 acid 31", SIGN)
+        owner.answer(paper_prompt(1), EXCHANGED)
+        owner.answer(NUMBERED, "7 leng 8 solu")
         owner.wait(paper_prompt(2))
         owner.answer(paper_prompt(2), f"{SIGN}0.0")
         owner.answer(paper_prompt(1), BAD_CHECKSUM)
@@ -147,11 +157,14 @@ def check_pasted():
         words = [f"{number}. {word.upper()}" for number, word in enumerate(TWO[0].split(), 1)]
         owner.type(", ".join(words[:7]) + "\n" + " ".join(words[7:]) + "\n" + TWO[1] + "\n")
         owner.wait(paper_prompt(3))
-        owner.expect(say("collect.taken", name="0.0"))
-        owner.expect(say("collect.taken", name="0.2"))
+        owner.expect(say("paste.taken", names=", ".join(map(name_of, TWO[:2]))))
         owner.expect(say("status.enough"))
         owner.type(TWO[0].replace("always", "alwys") + "\n" + "always\n" * 3)
+        owner.answer(say("paste.mend"), "")
+        owner.expect(say("paste.left", begin="always always always", why=said_count(3, 20)))
+        owner.type("acdmic\nacid acid\n")
         owner.wait(word_prompt(4))
+        owner.expect(say("screen.dropped"))
         owner.answer(word_prompt(4), "always")
         owner.wait(paper_prompt(3))
         owner.expect(say("collect.repeated", name=name_of(TWO[0])))
@@ -275,16 +288,20 @@ def check_passphrases():
         owner.expect("the passphrase is most likely mistyped, or the backup has none")
         if "Every quorum" in owner.emulator.all_seen():
             raise Failed("with a wrong passphrase, every quorum is said to be right")
-        owner.answer(say("next.again"), "")
+        owner.answer(say("next.again"), "t")
         check_unnoted(owner)
         owner.answer(paper_prompt(6), "")
         owner.answer(say("passphrase.ask"), PASSPHRASE)
         owner.answer(say("noted.ask"), FINGERPRINT)
         owner.wait(say("next.good"))
         owner.expect(say("verdict.all.noted", quorums="7 quorums", fingerprint=FINGERPRINT))
-        owner.answer(say("next.good"), "t")
-        owner.answer(say("next.good"), "")
-        owner.expect(say("screen.answers", answers="e, p"))
+        owner.expect(f"[ok] {say('verdict.all.noted', quorums='7 quorums', fingerprint=FINGERPRINT)}")
+        for typed in ("t", ""):
+            owner.forget()
+            owner.answer(say("next.good"), typed)
+            owner.wait(say("next.good"))
+            owner.expect(say("screen.answers", answers="e, p"))
+        owner.answer(say("next.good"), "e")
         owner.end(0)
 
 
@@ -296,6 +313,8 @@ def check_unnoted(owner):
         owner.wait(say("next.unnoted"))
         owner.expect(say("check.done.same"))
         owner.expect(say("verdict.all.same", quorums="7 quorums", fingerprint=fingerprint_of(THREE_GROUPS, passphrase)))
+        if "[ok]" in owner.emulator.all_seen():
+            raise Failed("what was compared with nothing is said to be equal to what was noted")
         owner.expect(say("noted.first"))
         if say("check.done.good") in owner.emulator.all_seen():
             raise Failed("without a noted fingerprint, the papers are said to have no fault")
@@ -313,7 +332,7 @@ def check_mixed():
         owner.expect(say("verdict.suspects.one", names=name_of(forged)))
         if "Every quorum" in owner.emulator.all_seen():
             raise Failed("although quorums are wrong, every quorum is said to be right")
-        owner.answer(say("next.papers"), "")
+        owner.answer(say("next.papers"), "p")
         owner.answer(paper_prompt(6), f"{SIGN}{name_of(forged)}")
         owner.answer(paper_prompt(5), f"{SIGN}3.3")
         owner.answer(paper_prompt(5), "")
@@ -337,20 +356,20 @@ def check_recover():
         owner.passphrase(PASSPHRASE, FINGERPRINT)
         owner.wait(say("next.papers"))
         owner.expect(say("refused.51", first=0))
-        owner.answer(say("next.papers"), "")
+        owner.answer(say("next.papers"), "p")
         owner.answer(paper_prompt(4), f"{SIGN}{name_of(THREE_GROUPS[1])}")
         owner.type_paper(paper_prompt(3), THREE_GROUPS[1])
         owner.reply(paper_prompt(4), "")
         owner.passphrase("TREZER", FINGERPRINT)
         owner.wait(say("next.again"))
         owner.expect(say("recover.done.other"))
-        owner.answer(say("next.again"), "")
+        owner.answer(say("next.again"), "t")
         owner.passphrase(PASSPHRASE, "")
         owner.answer(f"{say('recover.show')} (y/n)", "n")
         owner.wait(say("next.unnoted"))
         owner.expect(FINGERPRINT)
         owner.expect(say("recover.done.unnoted"))
-        owner.answer(say("next.unnoted"), "")
+        owner.answer(say("next.unnoted"), "e")
         owner.end(0)
 
 

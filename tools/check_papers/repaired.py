@@ -39,7 +39,7 @@ def check_read_later():
         owner.wait(say("next.good"))
         owner.expect(say("check.done.good"))
         silent(owner, "Write it anew")
-        owner.answer(say("next.good"), "")
+        owner.answer(say("next.good"), "e")
         owner.end(0)
 
 
@@ -143,7 +143,7 @@ def check_untried():
         owner.expect(say("check.done.left_out"))
         owner.expect(say("damaged.keep"))
         silent(owner, "is right: the drill gave your secret with it")
-        owner.answer(say("next.good"), "")
+        owner.answer(say("next.good"), "e")
         owner.end(0, "closed.repaired")
 
 
@@ -169,7 +169,7 @@ def check_taken_out():
         owner.passphrase("", fingerprint_of(papers, ""))
         owner.wait(say("next.good"))
         owner.expect(say("damaged.right.one", names="0.0"))
-        owner.answer(say("next.good"), "")
+        owner.answer(say("next.good"), "e")
         owner.end(0, "closed")
 
 

@@ -95,7 +95,7 @@ def check_kept(terminal):
     if SECRET[:8] not in terminal.shown():
         raise Failed("tmux doesn't show the digits, so this check sees nothing")
     terminal.answer(say("recover.clear"), "")
-    terminal.answer(say("next.unnoted"), "")
+    terminal.answer(say("next.unnoted"), "e")
     terminal.wait(f"{say('closed')} $")
     kept = terminal.kept()
     if words_in(kept) or "TREZOR" in kept or re.search(r"\b[0-9a-f]{8}\b", kept):

@@ -65,42 +65,43 @@ def check_damaged():
 def papers_of(plan):
     """Returns the papers of a backup without a passphrase, by the plain reading."""
     plan = plain.parse_plan(plan)
-    shares = plain.create(plan, bytes(range(16)), b"", 0, False, bytes(range(plain.random_needed(plan, 16))))
+    shares = plain.create(plan, bytes(range(16)), b"", 0, False, bytes(at % 256 for at in range(plain.random_needed(plan, 16))))
     return [plain.mnemonic(share) for share in shares]
 
 
 def check_number():
-    """A number of papers that is too small, one that is too large, and the right one: each can be given again."""
-    papers, choose = papers_of("2of3"), say("replace.choose")
-    ask = say("replace.ask", needed=2)
-    with started("replace") as owner:
-        owner.answer(say("replace.how"), "1")
-        owner.type_paper(paper_prompt(1), papers[0])
-        owner.wait(paper_prompt(2))
-        owner.expect(say("replace.not_enough", needed=counted(2, "paper"), here=1))
-        owner.type_paper(paper_prompt(2), papers[1])
-        owner.wait(paper_prompt(3))
-        owner.expect(say("replace.enough"))
-        owner.answer(paper_prompt(3), "")
-        for number, texts in [
-            ("2", [say("replace.none"), say("replace.had.all")]),
-            ("5", [say("replace.found", names="0.2, 0.3, 0.4"), say("replace.had")]),
-            ("3", [say("replace.found", names="0.2"), say("replace.had")]),
-        ]:
-            owner.forget()
-            owner.answer(ask, number)
+    """A missing paper is named by its name, or by its number if there is only one group. No number of papers is asked for."""
+    papers, choose = papers_of("2of3"), say("replace.choose.only")
+    for name in ("0.2", "2", " 0. 2"):
+        with started("replace") as owner:
+            owner.answer(say("replace.how"), "1")
+            owner.type_paper(paper_prompt(1), papers[0])
+            owner.wait(paper_prompt(2))
+            owner.expect(say("replace.not_enough", needed=counted(2, "paper"), here=1))
+            owner.type_paper(paper_prompt(2), papers[1])
+            owner.wait(paper_prompt(3))
+            owner.expect(say("replace.enough"))
+            owner.answer(paper_prompt(3), "")
+            owner.answer(choose, "1")
             owner.wait(choose)
-            for text in [say("replace.said.only", papers=counted(int(number), "paper"), first="0.0", last=f"0.{int(number) - 1}"), *texts]:
-                owner.expect(text)
-            owner.answer(choose, "b" if number != "3" else "0.2")
-        owner.wait(say("new.write"))
-        if owner.words() != papers[2]:
-            raise Failed("the paper that is written again has other words")
-        end_by_keys(owner)
+            owner.expect(say("which.here", name="0.1"))
+            owner.answer(choose, name)
+            owner.wait(say("new.write"))
+            owner.expect(say("takes.papers", needed=2))
+            if owner.words() != papers[2]:
+                raise Failed("the paper that is written again has other words")
+            owner.answer(say("new.write"), "")
+            owner.type_paper(say("back.ask", name="0.2"), papers[2])
+            owner.wait(choose)
+            owner.expect(say("which.another"))
+            owner.answer(choose, "")
+            owner.expect(say("which.name.wrong"))
+            end_by_keys(owner)
     with started("replace") as owner:
         owner.answer(say("replace.how"), "1")
         owner.collect(papers_of("1of1"))
-        owner.answer(choose, "b")
+        owner.answer(say("replace.choose.none"), "")
+        owner.answer(say("replace.choose.none"), "b")
         owner.wait(paper_prompt(2))
         end_by_keys(owner)
 
@@ -127,6 +128,7 @@ def check_twice():
 
 def made(owner):
     """Makes a backup of one paper, up to its words, and returns them."""
+    owner.settle()
     owner.answer(say("new.secret"), "")
     owner.answer(say("new.passphrase"), "")
     owner.answer(f"{say('new.passphrase.none')} {say('screen.yes.back')}", "y")
@@ -223,13 +225,17 @@ def check_plans():
             ("1/1of1,2of3", [say("plan.found.one", names="0.0")]),
         ]:
             owner.answer(plan, typed)
+            owner.answer(say("new.plan.sure"), "b")
+            owner.answer(plan, typed)
+            owner.settle()
             owner.wait(say("new.secret"))
             for text in texts:
                 owner.expect(text)
             owner.answer(say("new.secret"), "b")
-        owner.answer(plan, "2of3")
+            owner.answer(say("new.wallet"), "b")
         owner.forget()
-        owner.wait(say("new.secret"))
+        owner.answer(plan, "2of3")
+        owner.wait(say("new.wallet"))
         if "is lost, the secret is lost" in owner.emulator.all_seen():
             raise Failed("one paper of 2of3 is said to be needed")
         end_by_keys(owner)
@@ -239,6 +245,7 @@ def check_spaces():
     """A space at the beginning or the end of a passphrase is asked about."""
     first, last = (f"{say(f'passphrase.space.{edge}')} (y/n)" for edge in ("first", "last"))
     with started("new", "2of3") as owner:
+        owner.settle()
         owner.answer(say("new.secret"), "")
         owner.answer(say("new.passphrase"), "TREZOR ")
         owner.answer(last, "n")

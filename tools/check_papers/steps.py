@@ -20,11 +20,12 @@ def check_new():
         owner.expect(say("refused.33", first=0))
         owner.answer(say("new.plan.choose"), "1")
         owner.expect(say("refused.31"))
+        owner.answer(say("new.wallet"), "")
+        owner.answer(say("new.wallet"), "2")
         owner.answer(say("new.secret"), "4")
         owner.answer(say("new.secret"), "m")
-        owner.answer(say("new.flag"), "b")
+        owner.answer(say("new.exponent"), "b")
         owner.answer(say("new.secret"), "m")
-        owner.answer(say("new.flag"), "n")
         owner.answer(say("new.exponent"), "16")
         owner.answer(say("new.exponent"), "15")
         owner.expect(say("more.exponent.wrong"))
@@ -46,18 +47,40 @@ def check_new():
         papers = owner.written()
         type_back(owner, papers)
         owner.wait(say("noted.done.own"))
-        owner.expect(say("back.same", name="0.2"))
-        owner.expect(say("verdict.all.own", quorums="3 quorums", fingerprint=FINGERPRINT))
         owner.expect(say("noted.own"))
         owner.expect(say("noted.apart"))
         owner.answer(say("noted.done.own"), "")
+        prove(owner)
         owner.wait(say("screen.end"))
+        owner.expect(f"[ok] {say('verdict.all.noted', quorums='3 quorums', fingerprint=FINGERPRINT)}")
+        owner.expect(say("make.restore"))
         owner.expect(say("make.own"))
-        owner.answer(say("screen.end"), "")
+        owner.answer(say("screen.end"), "e")
         owner.end(0)
         fields = plain.parse(papers[0].encode())
         if (fields["extendable"], fields["exponent"]) != (0, 0):
             raise Failed("the flag and the exponent that were asked for aren't in the papers")
+
+
+def prove(owner):
+    """Types a fingerprint and a passphrase that are wrong, and then right ones. Until then the backup isn't made."""
+    ask = say("proof.ask.own", sign=SIGN)
+    for typed, text in [("xyz", say("proof.wrong")), ("01234567", say("proof.other"))]:
+        owner.answer(ask, typed)
+        owner.wait(ask)
+        owner.expect(text)
+    owner.answer(ask, "")
+    owner.answer(say("noted.done.own"), "")
+    owner.answer(ask, FINGERPRINT.upper())
+    for passphrase, key in [("TREZER", "proof.passphrase"), ("", "proof.passphrase.none")]:
+        owner.answer(say("passphrase.ask"), passphrase)
+        owner.wait(say("make.failed.again"))
+        owner.expect(say(key))
+        owner.expect(say("proof.passphrase.then"))
+        owner.answer(say("make.failed.again"), "t")
+    if say("make.done") in owner.emulator.all_seen():
+        raise Failed("the backup is said to be made before the passphrase is right")
+    owner.answer(say("passphrase.ask"), PASSPHRASE)
 
 
 def type_own_secret(owner):
@@ -78,20 +101,24 @@ def type_own_secret(owner):
     owner.answer(say("new.secret.again"), f"{SECRET[:-1]}0")
     owner.wait(digits)
     owner.expect(say("secret.differ"))
-    for typed, noted in [(f"{SECRET[:-1]}0", FINGERPRINT), (SECRET, "01234567")]:
-        owner.answer(digits, typed)
-        owner.answer(say("new.secret.again"), typed)
-        owner.answer(say("noted.ask"), noted)
-        owner.wait(digits)
-        owner.expect(say("secret.other", fingerprint=by_digits(typed), noted=noted))
+    wrong = f"{SECRET[:-1]}0"
+    owner.answer(digits, wrong)
+    owner.answer(say("new.secret.again"), wrong)
+    owner.answer(say("noted.ask"), FINGERPRINT)
+    owner.answer(say("noted.again"), "")
+    owner.expect(say("secret.other", fingerprint=by_digits(wrong), noted=FINGERPRINT))
+    owner.answer(say("noted.again"), "b")
     owner.answer(digits, f"{SECRET[:16]} {SECRET[16:].upper()}")
     owner.answer(say("new.secret.again"), SECRET)
     owner.wait(say("noted.ask"))
     owner.expect(say("new.secret.count", digits=32, bytes=16))
     owner.answer(say("noted.ask"), "xyz")
-    owner.answer(say("noted.ask"), FINGERPRINT)
+    # After a mistyped fingerprint, the fingerprint alone is typed again.
+    owner.answer(say("noted.ask"), "01234567")
+    owner.answer(say("noted.again"), FINGERPRINT)
     owner.wait(say("new.passphrase"))
     owner.expect(say("noted.wrong"))
+    owner.expect(say("noted.again.wrong"))
     owner.expect(say("secret.same"))
     if say("new.write") in owner.asked:
         raise Failed("a paper is shown before the digits are right")
@@ -132,9 +159,11 @@ def check_replace():
         owner.wait(say("replace.how"))
         owner.expect("first try 'Read a damaged paper' (repair)")
         owner.answer(say("replace.how"), "2")
-        owner.wait(say("screen.end.back"))
+        owner.answer(say("replace.new.choose"), "b")
+        owner.answer(say("replace.how"), "2")
+        owner.wait(say("replace.new.choose"))
         owner.expect(say("replace.new.move"))
-        owner.answer(say("screen.end.back"), "")
+        owner.answer(say("replace.new.choose"), "e")
         owner.end(0)
     with started("replace") as owner:
         owner.answer(say("replace.how"), "1")
@@ -144,58 +173,54 @@ def check_replace():
         owner.answer(say("more.papers"), "")
         owner.type_paper(paper_prompt(2), THREE_GROUPS[1])
         owner.reply(paper_prompt(3), "")
-        ask_groups(owner)
-        members, needed = say("replace.ask.group", group=0, needed=2), [say("replace.ask.needed", group=group) for group in (1, 2)]
-        owner.answer(members, "17")
-        owner.wait(members)
-        owner.expect(say("replace.members.wrong"))
-        owner.answer(members, "1")
-        owner.wait(members)
-        owner.expect(say("replace.members.few", name="0.1", group=0, papers="2 papers"))
-        owner.answer(members, "2of3")
-        owner.wait(needed[0])
-        owner.expect(say("replace.needed.hint", group=1))
-        owner.answer(needed[0], "1")
-        owner.answer(needed[1], "2")
-        owner.wait(say("replace.choose"))
-        owner.expect(say("replace.found", names="0.2"))
-        owner.expect("1.0: That takes 1 paper more of group 1. Or it takes 2 complete groups besides")
-        owner.expect("2.0, 2.1: That takes 2 papers more of group 2. Or it takes 1 paper more of group 2, and")
-        owner.answer(say("replace.choose"), "p")
+        choose = say("replace.choose")
+        owner.wait(choose)
+        for name, key in [("0.2", "after"), ("1.0", "of_group"), ("2.0", "of_group")]:
+            owner.expect(f"{name} {say(f'which.{key}', group=name[0])}")
+        ask_names(owner)
+        owner.answer(say("which.ask.needed", group=1), "b")
         owner.type_paper(paper_prompt(3), THREE_GROUPS[3])
-        owner.reply(paper_prompt(4), "")
-        owner.answer(say("replace.groups.ask"), "2.0")
-        owner.answer(needed[1], "1")
-        owner.wait(say("replace.choose"))
-        owner.expect(say("replace.found", names="2.0"))
-        owner.answer(say("replace.choose"), "2.0")
+        owner.answer(paper_prompt(4), "")
+        owner.answer(choose, "2.0")
+        owner.answer(say("which.ask.needed", group=2), "1")
         owner.wait(say("new.write"))
         if owner.words() != THREE_GROUPS[4]:
             raise Failed("the paper that is written again has other words")
         end_by_keys(owner)
 
 
-def ask_groups(owner):
-    """Only the groups that the owner names are asked for, and only they are told of."""
-    groups = say("replace.groups.ask")
-    owner.answer(groups, "0 3")
-    owner.wait(groups)
-    owner.expect(say("replace.groups.wrong", last=2))
-    owner.forget()
-    owner.answer(groups, "0")
-    owner.answer(say("replace.ask.group", group=0, needed=2), "3")
-    owner.wait(say("replace.choose"))
-    owner.expect(say("replace.found", names="0.2"))
-    if "That takes" in owner.emulator.all_seen():
-        raise Failed("the program tells of papers of groups that aren't wanted")
-    for wrong in ("0.9", "2"):
-        owner.answer(say("replace.choose"), wrong)
-        owner.expect(say("screen.answers", answers="0.2, d, b"))
+def ask_names(owner):
+    """A name that no missing paper has, and papers that can't be written: the owner hears why, and is asked again. A number that stands in a
+    list is no name."""
+    choose = say("replace.choose")
+    for typed, told in [
+        ("2", say("which.name.wrong")),
+        ("0.16", say("which.name.wrong")),
+        ("0.2 0.3", say("which.name.wrong")),
+        ("", say("which.name.wrong")),
+        ("3.0", say("which.beyond", groups="3 groups")),
+        ("0.1", say("which.here", name="0.1")),
+    ]:
         owner.forget()
-    owner.answer(say("replace.choose"), "d")
+        owner.answer(choose, typed)
+        owner.wait(choose)
+        owner.expect(told)
+    for name, group, needed, why in [
+        ("1.0", 1, "1", "That takes 1 paper more of group 1. Or it takes 2 complete groups besides"),
+        ("2.1", 2, "2", "That takes 2 papers more of group 2. Or it takes 1 paper more of group 2, and"),
+    ]:
+        owner.answer(choose, name)
+        owner.answer(say("which.ask.needed", group=group), "17")
+        owner.wait(say("which.ask.needed", group=group))
+        owner.expect(say("which.needed.hint"))
+        owner.expect(say("which.needed.wrong"))
+        owner.answer(say("which.ask.needed", group=group), needed)
+        owner.wait(choose)
+        owner.expect(f"{say('which.untold', name=name)} {why}")
+    owner.answer(choose, "d")
     owner.answer(say("more.papers"), "")
     owner.answer(paper_prompt(3), "")
-    owner.answer(groups, "")
+    owner.answer(choose, "1.0")
 
 
 def check_repair():
@@ -247,13 +272,12 @@ def check_wrong_plan():
         with started("replace") as owner:
             owner.answer(say("replace.how"), "1")
             owner.collect([papers[0], papers[-1]])
-            owner.answer(say("replace.groups.ask"), "1")
-            owner.answer(say("replace.ask.needed", group=1), needed)
-            owner.wait(say("replace.choose"))
+            owner.answer(say("replace.choose"), "1.0")
+            owner.answer(say("which.ask.needed", group=1), needed)
             if needed == "2":
-                owner.expect(say("replace.untold"))
+                owner.wait(say("replace.choose"))
+                owner.expect(say("which.untold", name="1.0"))
             else:
-                owner.answer(say("replace.choose"), "1.0")
                 owner.wait(say("new.write"))
                 if owner.words() in papers:
                     raise Failed("a wrong number of needed papers gives a paper of the backup")
@@ -262,15 +286,18 @@ def check_wrong_plan():
 
 def check_back():
     """From each of the first questions, the owner goes back to the one before, and at last to the tasks."""
-    secret, plan = say("new.secret"), say("new.plan.choose")
+    secret, plan, wallet = say("new.secret"), say("new.plan.choose"), say("new.wallet")
     with Owner() as owner:
         owner.prepare()
         owner.answer(MENU, "1")
         owner.answer(plan, "b")
         owner.answer(MENU, "new")
         owner.answer(plan, "2")
+        owner.answer(wallet, "1")
         owner.answer(secret, "B")
+        owner.answer(wallet, "b")
         owner.answer(plan, "1")
+        owner.answer(wallet, "3")
         owner.answer(secret, "3")
         owner.answer(say("new.secret.digits"), "b")
         owner.answer(secret, "1")
@@ -280,18 +307,32 @@ def check_back():
         owner.expect(say("plan.sentence.any", needed=2, members=3))
         end_by_keys(owner)
     with started("new", "2of3") as owner:
-        owner.answer(secret, "b")
+        owner.answer(wallet, "b")
         owner.answer(plan, "b")
         owner.answer(MENU, "replace")
         owner.answer(say("replace.how"), "b")
         owner.answer(MENU, "4")
         owner.answer(say("replace.how"), "1")
         owner.collect(THREE_GROUPS[:2])
-        owner.answer(say("replace.groups.ask"), "0")
-        owner.answer(say("replace.ask.group", group=0, needed=2), "b")
+        owner.answer(say("replace.choose"), "1.0")
+        owner.answer(say("which.ask.needed", group=1), "b")
         owner.answer(paper_prompt(3), "")
-        owner.answer(say("replace.groups.ask"), "b")
+        owner.answer(say("replace.choose"), "b")
         owner.wait(paper_prompt(3))
+        end_by_keys(owner)
+
+
+def check_spaced():
+    """A plan may be typed with spaces, on the command line too."""
+    for words in (["2 of 3"], ["2", "of", "3"]):
+        with started("new", *words) as owner:
+            owner.wait(say("new.wallet"))
+            if owner.asked.count(say("new.plan.choose")):
+                raise Failed(f"{words} is no plan")
+            end_by_keys(owner)
+    with started("new") as owner:
+        owner.answer(say("new.plan.choose"), "2 of 3")
+        owner.wait(say("new.wallet"))
         end_by_keys(owner)
 
 
@@ -305,6 +346,7 @@ def check_full():
                 owner.type(key)
                 while owner.pull(0.3):
                     pass
+            owner.settle()
             owner.wait(say("new.secret"))
             owner.expect(say("plan.sentence.any", needed=3, members=5))
             if owner.asked.count(say("new.plan.choose")):
@@ -312,7 +354,7 @@ def check_full():
             end_by_keys(owner)
 
 
-CHECKS = [check_new, check_replace, check_wrong_plan, check_repair, check_back, check_full]
+CHECKS = [check_new, check_replace, check_wrong_plan, check_repair, check_back, check_spaced, check_full]
 
 
 def check(see):

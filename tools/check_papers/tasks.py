@@ -60,6 +60,22 @@ class Owner(Session):
     def prepare(self):
         self.reply(say("safety.go"), "")
 
+    def settle(self, wallet="1"):
+        """Takes the plan, also if one paper of it is dangerous, and says which wallet reads the papers."""
+        if self.wait(say("new.plan.sure"), say("new.wallet")) == say("new.plan.sure"):
+            self.reply(say("new.plan.sure"), "u")
+        self.reply(say("new.wallet"), wallet)
+
+    def prove(self, noted, passphrase):
+        """Types what was noted, as the program asks before it says that a backup is made."""
+        self.reply(say("proof.ask", sign=SIGN), noted)
+        self.hide(say("passphrase.ask"), passphrase, has_back=False)
+
+    def noted(self):
+        """Returns the fingerprint that is shown to be noted."""
+        shown = f"{self.screen()} {self.emulator.all_seen()}"
+        return re.findall(rf"(?:{say('noted.title')}|{say('noted.title.own')}): ([0-9a-f]{{8}})", shown)[-1]
+
     def type_paper(self, prompt, line):
         self.prompts.append(prompt)
         self.answer(prompt, short(line))
@@ -113,6 +129,7 @@ def paper_prompt(number):
 def make(owner, passphrase, names, secret=None, known=""):
     """Goes through the task 'new' from the secret on. `known` is the fingerprint that was noted of the owner's own secret. Returns the
     papers and the fingerprint."""
+    owner.settle()
     if secret is None:
         owner.reply(say("new.secret"), "")
     else:
@@ -133,12 +150,17 @@ def make(owner, passphrase, names, secret=None, known=""):
         owner.type_paper(say("back.ask", name=name), line)
     noted = say("noted.done.own" if secret else "noted.done")
     owner.wait(noted)
-    found = re.search(rf"(?:{say('noted.title')}|{say('noted.title.own')}): ([0-9a-f]{{8}})", owner.screen() + owner.emulator.all_seen())[1]
+    found = owner.noted()
     if found != fingerprint_of(papers, passphrase):
         raise Failed(f"the fingerprint {found} isn't that of the papers")
     owner.reply(noted, "")
+    if secret:
+        owner.reply(say("proof.ask.own", sign=SIGN), found if known else SIGN)
+        owner.hide(say("passphrase.ask"), passphrase, has_back=False)
+    else:
+        owner.prove(found, passphrase)
     owner.expect(say("make.done"))
-    owner.reply(say("screen.end"), "")
+    owner.reply(say("screen.end"), "e")
     owner.end(0)
     return papers, found
 
@@ -147,7 +169,7 @@ def check_new(see):
     with Owner("new", "2/3of5,1of1") as owner:
         owner.prepare()
         papers, noted = make(owner, PASSPHRASE, ["0.0", "0.1", "0.2", "0.3", "0.4", "1.0"])
-        owner.within(12)
+        owner.within(15)
     return papers, noted
 
 
@@ -158,7 +180,7 @@ def check_check(papers, noted):
         owner.passphrase(PASSPHRASE, noted)
         owner.wait(say("next.good"))
         owner.expect(say("verdict.all.noted", quorums="10 quorums", fingerprint=noted))
-        owner.reply(say("next.good"), "")
+        owner.reply(say("next.good"), "e")
         owner.end(0)
         owner.within(12)
 
@@ -175,7 +197,7 @@ def check_recover(papers, noted):
         if digits != secret_of(papers, PASSPHRASE):
             raise Failed("the digits that are shown aren't those of the secret")
         owner.reply(owner.question("recover.clear"), "")
-        owner.reply(say("next.good"), "")
+        owner.reply(say("next.good"), "e")
         owner.end(0)
         owner.within(12)
 
@@ -186,10 +208,9 @@ def check_replace(papers, noted):
         owner.prepare()
         owner.reply(say("replace.how"), "1")
         owner.collect(rest)
-        owner.reply(say("replace.groups.ask"), "0")
-        owner.reply(say("replace.ask.group", group=0, needed=3), "5")
         owner.wait(say("replace.choose"))
-        owner.expect(say("replace.found", names="0.1, 0.3"))
+        for name, key in [("0.1", "between"), ("0.3", "between"), ("0.5", "after")]:
+            owner.expect(f"{name} {say(f'which.{key}')}")
         owner.reply(say("replace.choose"), "0.1")
         owner.wait(owner.question("new.write"))
         if owner.words() != lost:
@@ -200,9 +221,64 @@ def check_replace(papers, noted):
         owner.passphrase(PASSPHRASE, noted)
         owner.wait(say("next.good"))
         owner.expect(say("verdict.all.noted", quorums="4 quorums", fingerprint=noted))
-        owner.reply(say("next.good"), "")
+        owner.reply(say("next.good"), "e")
         owner.end(0)
         owner.within(12)
+
+
+def names_of(plan):
+    return [f"{group}.{member}" for group, (_, members) in enumerate(plain.parse_plan(plan)[1]) for member in range(members)]
+
+
+def change(owner, plan, wallet=""):
+    """Goes through the task 'change' from the choice of the plan on, until the new papers are typed back. Returns them. `wallet` says which
+    wallet will read them, if that is asked."""
+    owner.reply(say("new.plan.choose"), plan)
+    if owner.wait(say("new.plan.sure"), say("new.wallet"), owner.question("new.write")) == say("new.plan.sure"):
+        owner.reply(say("new.plan.sure"), "u")
+    if wallet:
+        owner.reply(say("new.wallet"), wallet)
+    papers, names = owner.written(), names_of(plan)
+    if [name_of(line) for line in papers] != names:
+        raise Failed(f"the papers {names} were expected, and {[name_of(line) for line in papers]} are shown")
+    owner.reply(say("screen.next"), "")
+    for name, line in zip(names, papers):
+        owner.type_paper(say("back.ask", name=name), line)
+    return papers
+
+
+def check_change(papers, noted):
+    """The papers of an extendable backup give others, by another plan. For each passphrase, these give the secret that the old ones give,
+    which never shows."""
+    old = [papers[at] for at in (1, 2, 4, 5)]
+    with Owner("change") as owner:
+        owner.prepare()
+        owner.collect(old)
+        new = change(owner, "2of3")
+        owner.passphrase(PASSPHRASE, noted)
+        owner.wait(say("screen.end"))
+        owner.expect(say("change.done"))
+        owner.expect(f"[ok] {say('verdict.all.noted', quorums='3 quorums', fingerprint=noted)} {say('change.same')}")
+        owner.expect(say("change.old"))
+        owner.expect(say("change.mixed"))
+        owner.reply(say("screen.end"), "e")
+        owner.end(0)
+        owner.within(13)
+        expect_same(owner, old, new[:2], [PASSPHRASE, "", "another"])
+        expect_same(owner, old, new[1:], [PASSPHRASE, "", "another"])
+
+
+def expect_same(owner, old, new, passphrases):
+    """Checks that old and new papers give the same secrets, that the backups have other identifiers, and that no secret was shown."""
+    for passphrase in passphrases:
+        secret = secret_of(old, passphrase)
+        if secret_of(new, passphrase) != secret:
+            raise Failed(f"with the passphrase {passphrase!r}, the new papers give another secret than the old ones")
+        if secret in "".join(owner.raw.decode().split()):
+            raise Failed("the secret is shown")
+    before, after = (plain.parse(lines[0].encode()) for lines in (old, new))
+    if before["id"] == after["id"] or before["exponent"] != after["exponent"]:
+        raise Failed("the new papers have the old identifier, or another exponent")
 
 
 def check_repair(papers, noted):
@@ -226,8 +302,32 @@ def check_repair(papers, noted):
         owner.end(0, "closed.repaired")
 
 
+def check_what(papers, noted):
+    """One paper says what it is, by the plain reading, and asks for nothing else. The flag and the other papers that it needs are told."""
+    told = [
+        (papers[0], say("what.others.both", papers="2 papers", group=0, groups=counted(1, "whole"))),
+        (papers[5], say("what.others.groups", groups=counted(1, "whole"))),
+        (SOUND_PAPER, say("what.others.none")),
+    ]
+    with Owner("what") as owner:
+        owner.prepare()
+        for line, others in told:
+            fields = plain.parse(line.encode())
+            owner.forget()
+            owner.type_paper(say("what.ask"), line)
+            owner.wait(say("what.next"))
+            owner.expect(say("what.found", name=name_of(line)))
+            owner.expect(say("what.backup", first=line.split()[0], second=line.split()[1]))
+            owner.expect(others)
+            owner.expect(say("what.flag" if fields["extendable"] else "what.flag.none"))
+            owner.expect(say("what.exponent", exponent=fields["exponent"]))
+            owner.expect(say("what.secret", bytes=len(fields["value"])))
+            owner.reply(say("what.next"), "b" if line != SOUND_PAPER else "e")
+        owner.end(0)
+
+
 def check(see):
     """Goes through all tasks with one new backup."""
     papers, noted = check_new(see)
-    for task in (check_check, check_recover, check_replace, check_repair):
+    for task in (check_check, check_recover, check_replace, check_change, check_repair, check_what):
         task(papers, noted)

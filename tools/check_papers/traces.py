@@ -8,7 +8,9 @@ import subprocess
 import tempfile
 
 from hands import PATIENCE, PROGRAM, Failed, environment, habits, say
-from tasks import PASSPHRASE, Owner, check_check, check_new, make, paper_prompt, secret_of
+from tasks import PASSPHRASE, Owner, change, check_check, check_new, fingerprint_of, make, paper_prompt, secret_of
+
+import plain
 
 # A passphrase that nothing else has.
 OWN_PASSPHRASE = "7mQ zebra-crossing 4tV"
@@ -84,13 +86,13 @@ def of_papers(papers):
 
 def check_memory():
     """Looks at the memory of the process at the last question of 'new' and of 'check': no passphrase is there, and after 'new' no
-    secret and no paper. Before that, while the papers are typed, they are found, or this check sees nothing."""
+    secret and no paper. Before that, when it is typed again, the passphrase is found, or this check sees nothing."""
     if os.geteuid() != 0:
         return "only root may look at the memory of the program, so it isn't looked at"
     seen = {}
 
     def at_question(session, prompt):
-        if prompt == say("back.ask", name="0.1"):
+        if prompt == say("new.passphrase.again"):
             seen["typed"] = look_for(session, {"passphrase": OWN_PASSPHRASE.encode()})
         if prompt == say("screen.end"):
             seen["memory"] = b"".join(memory_of(session.run.pid))
@@ -111,7 +113,29 @@ def check_memory():
     if left:
         raise Failed(f"after a backup was made, the memory of the program still has {', '.join(left)}")
     check_memory_of_check(papers, noted, secret)
+    check_memory_of_change(papers, noted, secret)
     return ""
+
+
+def check_memory_of_change(papers, noted, secret):
+    """At the last question of 'change', old and new papers are gone, and so is the secret, which papers without the flag are made of."""
+    flagless = [plain.mnemonic({**plain.parse(line.encode()), "extendable": 0}) for line in papers]
+    for old, fingerprint in [(papers, noted), (flagless, fingerprint_of(flagless, OWN_PASSPHRASE))]:
+        with Owner("change") as owner:
+            owner.prepare()
+            owner.collect(old[1:])
+            if old is flagless:
+                owner.passphrase(OWN_PASSPHRASE, fingerprint)
+            new = change(owner, "2of3", "1" if old is flagless else "")
+            owner.passphrase(OWN_PASSPHRASE, fingerprint)
+            owner.wait(say("screen.end"))
+            digits = secret_of(old, OWN_PASSPHRASE)
+            texts = {"the passphrase": OWN_PASSPHRASE.encode(), "the digits of the secret": digits.encode(), "the secret": bytes.fromhex(digits)}
+            left = look_for(owner, {**texts, **of_papers(old[1:]), **{f"new {what}": text for what, text in of_papers(new).items()}})
+            if left:
+                raise Failed(f"after the plan was changed, the memory of the program still has {', '.join(left)}")
+            owner.reply(say("screen.end"), "e")
+            owner.end(0)
 
 
 def check_memory_of_check(papers, noted, secret):
@@ -123,7 +147,7 @@ def check_memory_of_check(papers, noted, secret):
         left = look_for(owner, {"the passphrase": OWN_PASSPHRASE.encode(), "the digits of the secret": secret.encode()})
         if left:
             raise Failed(f"after a check, the memory of the program still has {', '.join(left)}")
-        owner.reply(say("next.good"), "")
+        owner.reply(say("next.good"), "e")
         owner.end(0)
 
 

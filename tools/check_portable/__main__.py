@@ -1,13 +1,14 @@
 """Makes the library as plain C from shamir32.wasm, as `make portable` does, checks it, and compares it with libshamir.so.
 
-    python3 tools/check_portable [--cases N] [--seed S]
+    python3 tools/check_portable [--cases N] [--seed S] [--only WORD..]
     python3 tools/check_portable --speed
 
 In an empty folder, `cc` builds the library and runs the published vectors, and CMake installs it. Compilers of C and C++ take it without
 warnings. It exports the calls of the header alone. On generated calls, the builds for each processor and system give the
 answers of libshamir.so, without writing past an output: on x86-64 with gcc, clang, their sanitizers and threads, for other processors
-under qemu, and for Windows under wine. Without memory each call refuses, and the memory of a call is clear when it is freed. On
-x86-64, no call leaves anything secret on the stack.
+under qemu, and for Windows under wine, where the published vectors run too. Without memory each call refuses, and the memory of a call is
+clear when it is freed. On x86-64, no call leaves anything secret on the stack, and no branch and no address depends on secret bytes but as
+timing.py says. --only names words: the parts run whose names have one of them.
 
 With --speed, it measures calls beside those of libshamir.a, and checks nothing.
 
@@ -33,6 +34,7 @@ import install  # noqa: E402
 import sources  # noqa: E402
 import speed  # noqa: E402
 import stack  # noqa: E402
+import timing  # noqa: E402
 from left_out import left_out  # noqa: E402
 
 Task = Tuple[str, Callable[[str], Optional[str]]]
@@ -47,14 +49,15 @@ def with_programs(what: str, programs: List[str], task: Callable[[str], Optional
     return [(what, task)]
 
 
-def builds_to_compare(folder: str, calls: List[str], right: List[bytes]) -> List[Task]:
+def builds_to_compare(calls: List[str], right: List[str]) -> List[Task]:
     """Returns a task for each build whose answers are compared with those of the native library."""
     count = len(calls)
     groups = [
-        (builds.EMULATED, count, agreement.agreed),
+        (builds.EMULATED, count, agreement.agreed_with_vectors),
         (builds.SANITIZERS, agreement.SANITIZED, agreement.agreed),
         (builds.THREADS, agreement.THREADED, agreement.agreed_in_threads),
         (builds.NATIVE, count, agreement.agreed),
+        (builds.SLOW, agreement.SLOW, agreement.agreed),
     ]
     tasks: List[Task] = []
     for targets, most, check in groups:
@@ -66,21 +69,19 @@ def builds_to_compare(folder: str, calls: List[str], right: List[bytes]) -> List
     return tasks
 
 
-def stacks() -> List[Task]:
-    """Returns a task for each build in which the stack is looked at after each call."""
+def on_x86_64() -> List[Task]:
+    """Returns a task for each build in which the stack is looked at after each call, or branches are that may depend on secrets."""
     if platform.machine() != "x86_64":
-        left_out("this isn't x86-64, so nothing looks for what dist/c leaves on the stack")
+        left_out("this isn't x86-64, so nothing looks for what dist/c leaves on the stack, or for branches of it that depend on secrets")
         return []
-    return [
-        task
-        for target in stack.TARGETS
-        for task in with_programs(target.name, [target.compiler], functools.partial(stack.is_cleared, target))
-    ]
+    looked = [(target, [target.compiler], stack.is_cleared) for target in stack.TARGETS]
+    looked += [(target, [target.compiler, "valgrind"], timing.is_even) for target in timing.TARGETS]
+    return [task for target, programs, check in looked for task in with_programs(target.name, programs, functools.partial(check, target))]
 
 
 def other_tasks() -> List[Task]:
     return [
-        *stacks(),
+        *on_x86_64(),
         *with_programs("the empty folder", ["cc"], sources.works_in_an_empty_folder),
         *with_programs("what shamir.c exports", ["gcc", "nm"], sources.has_right_symbols),
         *with_programs("the form", ["gcc"], sources.compiles_strictly),
@@ -107,6 +108,7 @@ def main() -> None:
     words = argparse.ArgumentParser()
     words.add_argument("--cases", type=int, default=2000)
     words.add_argument("--seed", type=int, default=39)
+    words.add_argument("--only", nargs="*", default=[""])
     words.add_argument("--speed", action="store_true")
     given = words.parse_args()
     missing = [it for it in ["gcc", "wasm2c", "wasm-opt"] if not shutil.which(it)]
@@ -122,15 +124,15 @@ def main() -> None:
         if given.speed:
             speed.measure()
         else:
-            check(given.cases, given.seed)
+            check(given.cases, given.seed, given.only)
 
 
-def check(count: int, seed: int) -> None:
-    """Runs all tasks, side by side."""
+def check(count: int, seed: int, only: List[str]) -> None:
+    """Runs the tasks whose names have one of these words, side by side."""
     calls = agreement.calls_of(count, seed)
     with tempfile.TemporaryDirectory() as folder, ThreadPoolExecutor(max_workers=len(os.sched_getaffinity(0))) as pool:
         right = builds.answers(None, builds.native(folder), calls)
-        tasks = [*builds_to_compare(folder, calls, right), *other_tasks()]
+        tasks = [it for it in [*builds_to_compare(calls, right), *other_tasks()] if any(word in it[0] for word in only)]
         wrong = [told for told in pool.map(failure, tasks) if told]
     if wrong:
         sys.exit("tools/check_portable: something is wrong\n" + "\n".join(wrong))

@@ -10,8 +10,8 @@ import builds  # noqa: E402
 import generated  # noqa: E402
 
 PARTS = 20
-# So many of the calls the sanitizers and the threads make.
-SANITIZED, THREADED, THREADS = 400, 60, 8
+# So many of the calls the sanitizers, the code without optimisation, and the threads make.
+SANITIZED, SLOW, THREADED, THREADS = 400, 400, 60, 8
 
 
 def part(numbers: "tuple[int, int]") -> List[str]:
@@ -26,17 +26,17 @@ def calls_of(count: int, seed: int) -> List[str]:
         return [line for lines in pool.map(part, [(each, seed * PARTS + number) for number in range(PARTS)]) for line in lines]
 
 
-def difference(name: str, calls: List[str], found: List[bytes], right: List[bytes]) -> Optional[str]:
+def difference(name: str, calls: List[str], found: List[str], right: List[str]) -> Optional[str]:
     """Returns what differs first, or None."""
     if len(found) != len(right):
         return f"{name} gives {len(found)} answers, and the native library {len(right)}"
     for line, one, other in zip(calls, found, right):
-        if one != other or b" changed" in one:
+        if one != other or " changed" in one:
             return f"{name} differs: {line[:2000]}\nas plain C: {one[:2000]!r}\nnative:     {other[:2000]!r}"
     return None
 
 
-def agreed(target: builds.Target, calls: List[str], right: List[bytes], folder: str) -> None:
+def agreed(target: builds.Target, calls: List[str], right: List[str], folder: str) -> None:
     """Sees that a build gives the answers of the native library."""
     found = builds.answers(target, builds.built(target, folder), calls, folder=folder)
     told = difference(target.name, calls, found, right)
@@ -44,9 +44,15 @@ def agreed(target: builds.Target, calls: List[str], right: List[bytes], folder: 
         raise builds.Failed(told)
 
 
-def agreed_in_threads(target: builds.Target, calls: List[str], right: List[bytes], folder: str) -> None:
+def agreed_with_vectors(target: builds.Target, calls: List[str], right: List[str], folder: str) -> None:
+    """Sees that a build gives the answers of the native library, and those of the published vectors."""
+    agreed(target, calls, right, folder)
+    builds.run(builds.words_of(target, builds.with_vectors(target, folder), folder))
+
+
+def agreed_in_threads(target: builds.Target, calls: List[str], right: List[str], folder: str) -> None:
     """Sees that threads that make the same calls at once get the answers of the native library, and no race."""
-    found = builds.answers(target, builds.built(target, folder), calls, str(THREADS), folder=folder)
+    found = builds.answers(target, builds.built(target, folder), calls, "threads", str(THREADS), folder=folder)
     told = difference(target.name, calls, found, right)
     if told:
         raise builds.Failed(told)

@@ -1,28 +1,32 @@
 """The builds of the library as plain C: for each processor and system, with each compiler and sanitizer."""
-import os
+import functools
 import pathlib
 import re
 import shutil
 import subprocess
+import threading
+from collections import defaultdict
 from dataclasses import dataclass, field
-from typing import Dict, List, Optional
+from typing import DefaultDict, Dict, List, Optional, Tuple
+
+import driver
+from driver import Failed as Failed
 
 ROOT = pathlib.Path(__file__).resolve().parents[2]
 HERE = ROOT / "tools" / "check_portable"
 COMMITTED = ROOT / "dist" / "c"
-# What is checked: what `make portable` makes of shamir32.wasm. `use` sets the folder.
-DIST = COMMITTED
+# What is checked: what `make portable` makes of shamir32.wasm. `use` sets the folder, and that of the compiled files.
+DIST = OBJECTS = COMMITTED
 STRICT = ["-Wall", "-Wextra", "-Wconversion", "-Werror"]
 SANITIZED = ["-g", "-fsanitize=address,undefined", "-fno-sanitize-recover=all", "-fno-omit-frame-pointer"]
 
 
-class Failed(Exception):
-    """What is wrong."""
-
-
 def use(folder: pathlib.Path) -> None:
-    global DIST
-    DIST = folder
+    """Lets the files to check, and what is compiled of them, be in parts of this folder."""
+    global DIST, OBJECTS
+    DIST, OBJECTS = folder / "c", folder / "objects"
+    DIST.mkdir()
+    OBJECTS.mkdir()
 
 
 @dataclass(frozen=True)
@@ -49,10 +53,10 @@ class Target:
 
 NATIVE = [
     Target("x86-64 with gcc -O2", "gcc", ["-O2"]),
-    Target("x86-64 with gcc -O0", "gcc", ["-O0"]),
     Target("x86-64 with clang -O2", "clang", ["-O2"]),
     Target("x86-64 with SHAMIR_CHECKED", "gcc", ["-O2", "-DSHAMIR_CHECKED"]),
 ]
+SLOW = [Target("x86-64 with gcc -O0", "gcc", ["-O0"])]
 EMULATED = [
     Target("arm64", "aarch64-linux-gnu-gcc", ["-O2", "-static"], ["qemu-aarch64", "qemu-aarch64-static"]),
     Target("32-bit ARM", "arm-linux-gnueabihf-gcc", ["-Os", "-static"], ["qemu-arm", "qemu-arm-static"]),
@@ -62,9 +66,10 @@ EMULATED = [
 ]
 # A report of a leak would be about driver.c, which keeps its calls until it ends.
 NO_LEAKS = {"ASAN_OPTIONS": "detect_leaks=0"}
+# With optimisation, compiling the instrumented code takes more than a minute. Without it, it takes five seconds.
 SANITIZERS = [
-    Target("gcc with its sanitizers", "gcc", ["-O1", *SANITIZED, "-DSHAMIR_CHECKED"], [], NO_LEAKS),
-    Target("clang with its sanitizers", "clang", ["-O1", *SANITIZED, "-DSHAMIR_CHECKED"], [], NO_LEAKS),
+    Target("gcc with its sanitizers", "gcc", ["-O0", *SANITIZED, "-DSHAMIR_CHECKED"], [], NO_LEAKS),
+    Target("clang with its sanitizers", "clang", ["-O0", *SANITIZED, "-DSHAMIR_CHECKED"], [], NO_LEAKS),
 ]
 THREADS = [
     Target("threads with gcc", "gcc", ["-O1", "-g", "-fsanitize=thread", "-DTHREADED", "-pthread"]),
@@ -82,25 +87,53 @@ def run(words: List[str], **options: object) -> bytes:
     return output
 
 
+LOCKS: DefaultDict[Tuple[str, ...], threading.Lock] = defaultdict(threading.Lock)
+
+
+def compiled(compiler: str, *words: str) -> str:
+    """Compiles shamir.c without a warning, once for each compiler and its words. Returns the file, or says what is wrong."""
+    with LOCKS[(compiler, *words)]:
+        return compiled_once(compiler, *words)
+
+
+@functools.cache
+def compiled_once(compiler: str, *words: str) -> str:
+    to = str(OBJECTS / (re.sub("[^A-Za-z0-9]+", "-", " ".join([compiler, *words])) + ".o"))
+    run([compiler, "-std=c99", "-pedantic", *STRICT, *words, "-c", str(DIST / "shamir.c"), "-o", to])
+    return to
+
+
+def program_of(kind: str, target: Target, folder: str) -> str:
+    return f"{folder}/{kind}-{re.sub('[^a-z0-9]', '-', target.name.lower())}.exe"
+
+
 def built(target: Target, folder: str) -> str:
     """Builds driver.c with dist/c for a target, and returns the program."""
-    program = f"{folder}/{re.sub('[^a-z0-9]', '-', target.name.lower())}.exe"
-    sources = [str(HERE / "driver.c"), str(DIST / "shamir.c")]
-    run([target.compiler, "-std=c99", *STRICT, *target.words, f"-I{DIST}", *sources, "-o", program])
+    program = program_of("driver", target, folder)
+    return driver.built(program, [target.compiler, *target.words, f"-I{DIST}"], compiled(target.compiler, *target.words))
+
+
+def with_vectors(target: Target, folder: str) -> str:
+    """Builds test.c, which has the published vectors, with dist/c for a target, and returns the program."""
+    program = program_of("test", target, folder)
+    words = ["-std=c99", *STRICT, "-Wno-overlength-strings", *target.words, f"-I{DIST}", str(DIST / "test.c")]
+    run([target.compiler, *words, compiled(target.compiler, *target.words), "-o", program])
     return program
 
 
 def native(folder: str) -> str:
     """Builds driver.c with libshamir.so, and returns the program."""
-    program = f"{folder}/native"
-    words = ["gcc", "-std=c99", *STRICT, "-O1", f"-I{ROOT}/include", str(HERE / "driver.c"), str(ROOT / "libshamir.so")]
-    run([*words, f"-Wl,-rpath,{ROOT}", "-o", program])
-    return program
+    library = [str(ROOT / "libshamir.so"), f"-Wl,-rpath,{ROOT}"]
+    return driver.built(f"{folder}/native", ["gcc", "-O1", f"-I{ROOT}/include"], *library)
 
 
-def answers(target: Optional[Target], program: str, calls: List[str], *more: str, folder: str = "") -> List[bytes]:
-    """Makes calls with a program that was built, and returns the line that it writes for each."""
+def words_of(target: Optional[Target], program: str, folder: str) -> List[str]:
+    """Returns the words that run a program that was built, with its emulator."""
     emulator = target.emulator() if target else None
-    environment = {**os.environ, **(target.environment if target else {}), "WINEPREFIX": f"{folder}/wine"}
-    given = "".join(it + "\n" for it in calls).encode()
-    return run([*([emulator] if emulator else []), program, *more], input=given, env=environment).splitlines()
+    environment = {**(target.environment if target else {}), "WINEPREFIX": f"{folder}/wine"}
+    return ["env", *(f"{name}={value}" for name, value in environment.items()), *([emulator] if emulator else []), program]
+
+
+def answers(target: Optional[Target], program: str, calls: List[str], *how: str, folder: str = "") -> List[str]:
+    """Makes calls with a program that was built, and returns the line that it writes for each."""
+    return driver.answers(words_of(target, program, folder), calls, *how)

@@ -1,23 +1,36 @@
 /*
- * tools/check_portable runs this program. It makes the calls that standard input has, and writes what they give.
+ * The tools run this program. It makes the calls of the library that standard input has, and writes what they give.
  *
- *     driver [THREADS] < CALLS
+ *     driver [HOW [COUNT]] < CALLS
  *
  * Each line of the input is a call: its name, its arguments in their order, and the room for its output, with single spaces between.
- * Bytes are hexadecimal digits after an x, and numbers are decimal. The program writes a line for each call: the fields of its answer,
- * those of the share that shamir_parse gives, and the output as hexadecimal digits. It marks the bytes in and round each output. If a
- * call changes one that it mustn't, or one of its arguments, the line has the word `changed` too.
+ * Bytes are hexadecimal digits after an x, and numbers are decimal. A dash stands for NULL. The program writes a line for each call:
+ * the fields of its answer, those of the share that shamir_parse gives, and the output as hexadecimal digits. It marks the bytes in and
+ * round each output. If a call changes one that it mustn't, or one of its arguments, the line has the word `changed` too.
  *
- * With THREADS, it makes all calls once in each of so many threads, and then once more. It writes the answers of the last time, and
- * before them `differs` if a thread got others.
+ *     threads COUNT   makes all calls once in each of so many threads, and then once more. It writes the answers of the last time, and
+ *                     before them `differs` if a thread got others (with -DTHREADED)
+ *     stack           makes all calls on a stack of SHAMIR_STACK_BYTES bytes. The pages below it can't be touched, so a call that uses
+ *                     more ends the program. The last line has the number of bytes that were touched (with -DTHREADED)
+ *     times COUNT     makes each call so often, and writes the microseconds of processor time that one takes
+ *
+ * With -DOBSERVED, a line with what then lies on the stack below the caller follows each line: hexadecimal digits, from the lowest byte
+ * that was touched. With -DMARKED, bytes after an X in place of the x are undefined for memcheck, so that it reports each branch and
+ * each address that depends on them.
  */
+#ifdef THREADED
+#define _DEFAULT_SOURCE
+#include <pthread.h>
+#include <sys/mman.h>
+#endif
+#ifdef MARKED
+#include <valgrind/memcheck.h>
+#endif
 #include <inttypes.h>
 #include <stdio.h>
 #include <stdlib.h>
 #include <string.h>
-#ifdef THREADED
-#include <pthread.h>
-#endif
+#include <time.h>
 
 #include "shamir.h"
 
@@ -30,7 +43,8 @@ typedef struct {
     uint8_t *bytes;
     uint8_t *kept;
     size_t count;
-    uint32_t number;
+    uint64_t number;
+    int is_secret;
 } argument;
 
 typedef struct {
@@ -38,6 +52,7 @@ typedef struct {
     argument arguments[ARGUMENTS_MAX];
     int count;
     size_t room;
+    int has_no_output;
 } made_call;
 
 /* What a call gives: its answer, the share, its output between marked bytes, and whether it changed what it mustn't. */
@@ -51,70 +66,36 @@ typedef struct {
 
 #define TEXT(place) (const char *)c->arguments[place].bytes, c->arguments[place].count
 #define BYTES(place) c->arguments[place].bytes, c->arguments[place].count
-#define NUMBER(place) c->arguments[place].number
+#define WIDE(place) c->arguments[place].number
+#define NUMBER(place) (uint32_t)WIDE(place)
 #define CHARACTERS (char *)r->output, r->room
 
-static void parse(const made_call *c, result *r)
-{
-    r->answer = shamir_parse(TEXT(0), &r->share, r->output, r->room);
-}
+#define CALL(name, ...) \
+    static void name(const made_call *c, result *r) \
+    { \
+        (void)c; \
+        r->answer = shamir_##name(__VA_ARGS__); \
+    }
 
-static void random_needed(const made_call *c, result *r)
-{
-    r->answer = shamir_random_needed(TEXT(0), NUMBER(1));
-}
-
-static void create(const made_call *c, result *r)
-{
-    r->answer = shamir_create(TEXT(0), BYTES(1), TEXT(2), NUMBER(3), NUMBER(4), BYTES(5), CHARACTERS);
-}
-
-static void recover(const made_call *c, result *r)
-{
-    r->answer = shamir_recover(TEXT(0), TEXT(1), NUMBER(2), TEXT(3), r->output, r->room);
-}
-
-static void drill(const made_call *c, result *r)
-{
-    r->answer = shamir_drill(TEXT(0), TEXT(1), NUMBER(2), TEXT(3), NUMBER(4), NUMBER(5), TEXT(6), CHARACTERS);
-}
-
-static void status(const made_call *c, result *r)
-{
-    r->answer = shamir_status(TEXT(0), CHARACTERS);
-}
-
-static void reissue(const made_call *c, result *r)
-{
-    r->answer = shamir_reissue(TEXT(0), TEXT(1), TEXT(2), CHARACTERS);
-}
-
-static void repair(const made_call *c, result *r)
-{
-    r->answer = shamir_repair(TEXT(0), CHARACTERS);
-}
-
-static void fingerprint(const made_call *c, result *r)
-{
-    r->answer = shamir_fingerprint(BYTES(0), CHARACTERS);
-}
-
-static void words(const made_call *c, result *r)
-{
-    r->answer = shamir_words(TEXT(0), CHARACTERS);
-}
+CALL(parse, TEXT(0), &r->share, r->output, r->room)
+CALL(random_needed, TEXT(0), NUMBER(1))
+CALL(create, TEXT(0), BYTES(1), TEXT(2), NUMBER(3), NUMBER(4), BYTES(5), CHARACTERS)
+CALL(recover, TEXT(0), TEXT(1), NUMBER(2), TEXT(3), r->output, r->room)
+CALL(drill, TEXT(0), TEXT(1), NUMBER(2), TEXT(3), NUMBER(4), NUMBER(5), TEXT(6), CHARACTERS)
+CALL(status, TEXT(0), CHARACTERS)
+CALL(quorums, TEXT(0))
+CALL(reissue, TEXT(0), TEXT(1), TEXT(2), CHARACTERS)
+CALL(resplit, TEXT(0), TEXT(1), BYTES(2), CHARACTERS)
+CALL(repair, TEXT(0), CHARACTERS)
+CALL(fingerprint, BYTES(0), CHARACTERS)
+CALL(words, TEXT(0), CHARACTERS)
+CALL(version, CHARACTERS)
 
 static void text(const made_call *c, result *r)
 {
-    shamir_answer given = {NUMBER(0), NUMBER(1), NUMBER(2), NUMBER(3), NUMBER(4), NUMBER(5)};
+    shamir_answer given = {NUMBER(0), NUMBER(1), WIDE(2), WIDE(3), WIDE(4), WIDE(5)};
 
     r->answer = shamir_text(&given, CHARACTERS);
-}
-
-static void version(const made_call *c, result *r)
-{
-    (void)c;
-    r->answer = shamir_version(CHARACTERS);
 }
 
 /* Clears the whole output, which it gets as an argument too. */
@@ -122,22 +103,39 @@ static void wipe(const made_call *c, result *r)
 {
     shamir_answer none = {0, 0, 0, 0, 0, 0};
 
-    if (c->arguments[0].count)
+    if (r->output && c->arguments[0].count)
         memcpy(r->output, c->arguments[0].bytes, c->arguments[0].count);
     shamir_wipe(r->output, c->arguments[0].count);
     r->answer = none;
     r->answer.written = c->arguments[0].count;
 }
 
+#ifdef MARKED
+/* Its branch and its address depend on secret bytes, so memcheck must report both. */
+__attribute__((noinline)) static void control(const made_call *c, result *r)
+{
+    static volatile uint32_t table[256];
+
+    if (c->arguments[0].bytes[0] > 7)
+        table[0]++;
+    r->answer.code = 0 * table[c->arguments[0].bytes[1]];
+}
+#endif
+
+typedef void maker(const made_call *, result *);
+
 static const struct {
     const char *name;
-    void (*make)(const made_call *, result *);
+    maker *make;
     int arguments;
 } calls[] = {
     {"parse", parse, 1},   {"random_needed", random_needed, 2}, {"create", create, 6},   {"recover", recover, 4},
     {"drill", drill, 7},   {"status", status, 1},               {"reissue", reissue, 3}, {"repair", repair, 1},
     {"fingerprint", fingerprint, 1}, {"words", words, 1},       {"text", text, 6},       {"version", version, 0},
-    {"wipe", wipe, 1},
+    {"wipe", wipe, 1},     {"quorums", quorums, 1},             {"resplit", resplit, 3},
+#ifdef MARKED
+    {"control", control, 1},
+#endif
 };
 
 static void *allocated(size_t bytes)
@@ -157,16 +155,15 @@ static int digit(int letter)
 /* Reads an argument. Bytes get two blocks: one for the call, and one that is compared with it afterwards. */
 static argument argument_of(const char *word)
 {
-    argument it = {NULL, NULL, 0, 0};
+    argument it = {NULL, NULL, 0, 0, 0};
     size_t i;
 
-    if (word[0] != 'x') {
-        it.number = (uint32_t)strtoul(word, NULL, 10);
+    if (word[0] != 'x' && word[0] != 'X') {
+        it.number = strtoull(word, NULL, 10);
         return it;
     }
+    it.is_secret = word[0] == 'X';
     it.count = strlen(word + 1) / 2;
-    if (it.count == 0)
-        return it;
     it.bytes = (uint8_t *)allocated(it.count);
     it.kept = (uint8_t *)allocated(it.count);
     for (i = 0; i < it.count; i++)
@@ -185,9 +182,10 @@ static made_call call_of(char *line)
     strncpy(c.name, word ? word : "", sizeof c.name - 1);
     for (word = strtok(NULL, " \r\n"); word; word = following) {
         following = strtok(NULL, " \r\n");
-        if (!following)
+        if (!following) {
             c.room = (size_t)strtoul(word, NULL, 10);
-        else if (c.count < ARGUMENTS_MAX)
+            c.has_no_output = word[0] == '-';
+        } else if (c.count < ARGUMENTS_MAX)
             c.arguments[c.count++] = argument_of(word);
     }
     return c;
@@ -201,11 +199,20 @@ static int is_marked(const uint8_t *bytes, size_t count)
     return 1;
 }
 
-/* Makes a call, and looks at what it changed. */
-static result made(const made_call *c)
+static maker *maker_of(const made_call *c)
+{
+    size_t i;
+
+    for (i = 0; i < sizeof calls / sizeof calls[0]; i++)
+        if (strcmp(c->name, calls[i].name) == 0 && c->count == calls[i].arguments)
+            return calls[i].make;
+    exit(4);
+}
+
+/* Returns what a call has to begin with: its output has the marks, and so do the bytes round it. */
+static result begun(const made_call *c)
 {
     result r;
-    size_t i, written;
     uint8_t *block = (uint8_t *)allocated(c->room + 2 * GUARD_BYTES);
 
     memset(&r, 0, sizeof r);
@@ -213,35 +220,124 @@ static result made(const made_call *c)
     memset(block, MARK, c->room + 2 * GUARD_BYTES);
     r.output = block + GUARD_BYTES;
     r.room = c->room;
-    for (i = 0; i < sizeof calls / sizeof calls[0]; i++)
-        if (strcmp(c->name, calls[i].name) == 0 && c->count == calls[i].arguments)
-            break;
-    if (i == sizeof calls / sizeof calls[0])
-        exit(4);
-    calls[i].make(c, &r);
+    return r;
+}
+
+static void end(result *r)
+{
+    free(r->output - GUARD_BYTES);
+}
+
+#ifdef OBSERVED
+/* No call reaches so far down. */
+#define STACK_BYTES (SHAMIR_STACK_BYTES + 65536)
+
+static uint8_t seen[STACK_BYTES];
+
+/* Makes a call. Then it copies what lies below its own frame, before it calls anything else. */
+__attribute__((noinline)) static void make(maker *of, const made_call *c, result *r)
+{
+    volatile uint8_t *frame;
+    size_t i;
+
+#if defined(__aarch64__)
+    __asm__ volatile("mov %0, sp" : "=r"(frame));
+#else
+    __asm__ volatile("mov %%rsp, %0" : "=r"(frame));
+#endif
+    for (i = 1; i <= STACK_BYTES; i++)
+        frame[-(ptrdiff_t)i] = MARK;
+    of(c, r);
+    for (i = 1; i <= STACK_BYTES; i++)
+        seen[STACK_BYTES - i] = frame[-(ptrdiff_t)i];
+}
+#elif defined(MARKED)
+/* Makes a call. What it gives is defined again, as it may depend on what is secret. */
+static void make(maker *of, const made_call *c, result *r)
+{
+    int i;
+
+    for (i = 0; i < c->count; i++)
+        if (c->arguments[i].is_secret)
+            (void)VALGRIND_MAKE_MEM_UNDEFINED(c->arguments[i].bytes, c->arguments[i].count);
+    of(c, r);
+    for (i = 0; i < c->count; i++)
+        (void)VALGRIND_MAKE_MEM_DEFINED(c->arguments[i].bytes, c->arguments[i].count);
+    (void)VALGRIND_MAKE_MEM_DEFINED(&r->answer, sizeof r->answer);
+    (void)VALGRIND_MAKE_MEM_DEFINED(r->output, r->room);
+}
+#else
+static void make(maker *of, const made_call *c, result *r)
+{
+    of(c, r);
+}
+#endif
+
+/* Makes a call, and looks at what it changed. */
+static result made(const made_call *c)
+{
+    result r = begun(c);
+    uint8_t *output = r.output;
+    size_t i, written;
+
+    if (c->has_no_output)
+        r.output = NULL;
+    make(maker_of(c), c, &r);
+    r.output = output;
     written = (size_t)r.answer.written;
-    r.is_changed = written > r.room || !is_marked(block, GUARD_BYTES) ||
-        !is_marked(r.output + written, r.room - written + GUARD_BYTES);
+    r.is_changed = written > r.room || !is_marked(output - GUARD_BYTES, GUARD_BYTES) ||
+        !is_marked(output + written, r.room - written + GUARD_BYTES);
     for (i = 0; i < (size_t)c->count; i++)
         if (c->arguments[i].count && memcmp(c->arguments[i].bytes, c->arguments[i].kept, c->arguments[i].count) != 0)
             r.is_changed = 1;
     return r;
 }
 
-static void write_result(const result *r)
+static void write_digits(const uint8_t *bytes, size_t count)
 {
     static const char digits[] = "0123456789abcdef";
-    size_t i;
 
+    for (; count; bytes++, count--) {
+        putchar(digits[*bytes >> 4]);
+        putchar(digits[*bytes & 15]);
+    }
+}
+
+static void write_result(const result *r)
+{
     printf("%" PRIu32 " %" PRIu32 " %" PRIu64 " %" PRIu64 " %" PRIu64 " %" PRIu64, r->answer.code, r->answer.mismatches, r->answer.line,
            r->answer.first, r->answer.second, r->answer.written);
     printf(" %u %u %u %u %u %u %u %u %u ", r->share.id, r->share.extendable, r->share.exponent, r->share.group_index,
            r->share.group_threshold, r->share.group_count, r->share.member_index, r->share.member_threshold, r->is_changed);
-    for (i = 0; i < r->answer.written; i++) {
-        putchar(digits[r->output[i] >> 4]);
-        putchar(digits[r->output[i] & 15]);
-    }
+    write_digits(r->output, r->answer.written <= r->room ? (size_t)r->answer.written : 0);
     printf("%s\n", r->is_changed ? " changed" : "");
+}
+
+#ifdef OBSERVED
+static void write_seen(void)
+{
+    size_t lowest = 0;
+
+    while (lowest < STACK_BYTES && seen[lowest] == MARK)
+        lowest++;
+    write_digits(seen + lowest, STACK_BYTES - lowest);
+    putchar('\n');
+}
+#endif
+
+static double microseconds_of(const made_call *c, int count)
+{
+    result r = begun(c);
+    maker *of = maker_of(c);
+    clock_t since = clock();
+    int i;
+
+    for (i = 0; i < count; i++)
+        of(c, &r);
+    if (r.answer.code != SHAMIR_DONE)
+        exit(5);
+    end(&r);
+    return 1e6 * (double)(clock() - since) / CLOCKS_PER_SEC / count;
 }
 
 static made_call *all_calls;
@@ -300,25 +396,76 @@ static int threads_differ(int count)
             differs |= !are_equal(&results[0][i], &results[k][i]);
     return differs;
 }
+
+/* The length of the memory below the stack that can't be touched. It is so long that no call reaches past it. */
+#define BELOW_BYTES (16 << 20)
+
+/* Makes all calls on a stack of SHAMIR_STACK_BYTES bytes. Returns how many of them were touched. */
+static size_t touched(result *results)
+{
+    pthread_attr_t attributes;
+    pthread_t thread;
+    uint8_t *memory = (uint8_t *)mmap(NULL, BELOW_BYTES + SHAMIR_STACK_BYTES, PROT_NONE, MAP_PRIVATE | MAP_ANONYMOUS, -1, 0);
+    uint8_t *stack = memory + BELOW_BYTES;
+    size_t left = 0;
+
+    if (memory == MAP_FAILED || mprotect(stack, SHAMIR_STACK_BYTES, PROT_READ | PROT_WRITE) != 0)
+        exit(3);
+    memset(stack, MARK, SHAMIR_STACK_BYTES);
+    if (pthread_attr_init(&attributes) != 0 || pthread_attr_setstack(&attributes, stack, SHAMIR_STACK_BYTES) != 0 ||
+        pthread_create(&thread, &attributes, made_in_thread, results) != 0 || pthread_join(thread, NULL) != 0)
+        exit(3);
+    while (left < SHAMIR_STACK_BYTES && stack[left] == MARK)
+        left++;
+    return SHAMIR_STACK_BYTES - left;
+}
+
+static void write_all_on_small_stack(void)
+{
+    result *results = (result *)allocated(call_count * sizeof *results);
+    size_t i, bytes = touched(results);
+
+    for (i = 0; i < call_count; i++)
+        write_result(&results[i]);
+    printf("%lu\n", (unsigned long)bytes);
+}
 #endif
 
-int main(int count, char **arguments)
+static void write_all(void)
 {
     size_t i;
 
-    read_calls();
-#ifdef THREADED
-    if (count == 2 && threads_differ(atoi(arguments[1]) > 64 ? 64 : atoi(arguments[1])))
-        printf("differs\n");
-#else
-    (void)count;
-    (void)arguments;
-#endif
     for (i = 0; i < call_count; i++) {
         result r = made(&all_calls[i]);
 
         write_result(&r);
-        free(r.output - GUARD_BYTES);
+#ifdef OBSERVED
+        write_seen();
+#endif
+        end(&r);
     }
+}
+
+int main(int count, char **arguments)
+{
+    const char *how = count > 1 ? arguments[1] : "";
+    int number = count > 2 ? atoi(arguments[2]) : 0;
+    size_t i;
+
+    read_calls();
+    if (strcmp(how, "times") == 0) {
+        for (i = 0; i < call_count; i++)
+            printf("%.3f\n", microseconds_of(&all_calls[i], number));
+        return 0;
+    }
+#ifdef THREADED
+    if (strcmp(how, "stack") == 0) {
+        write_all_on_small_stack();
+        return 0;
+    }
+    if (threads_differ(number > 64 ? 64 : number))
+        printf("differs\n");
+#endif
+    write_all();
     return 0;
 }

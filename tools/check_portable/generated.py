@@ -1,39 +1,24 @@
 """Generated calls of the library, as lines that driver.c reads. What is right for them comes from the native library."""
-import importlib.machinery
-import importlib.util
-import pathlib
 import random
-from types import ModuleType
 from typing import Callable, Dict, List
 
-ROOT = pathlib.Path(__file__).resolve().parents[2]
-
-
-def tool(name: str) -> ModuleType:
-    """Returns another of the tools as a module."""
-    loader = importlib.machinery.SourceFileLoader(name, str(ROOT / "tools" / name))
-    spec = importlib.util.spec_from_loader(name, loader)
-    assert spec is not None
-    module = importlib.util.module_from_spec(spec)
-    loader.exec_module(module)
-    return module
-
+import driver
+from tool import tool
 
 compare = tool("compare")
 
-ENOUGH = {"parse": 128, "create": 253440, "recover": 128, "drill": 65536, "status": 1638, "reissue": 253440, "repair": 1980}
+ENOUGH = {"parse": 128, "create": 253440, "recover": 128, "drill": 65536, "status": 1638, "reissue": 253440, "repair": 1980, "resplit": 253440}
 ENOUGH |= {"fingerprint": 8, "words": 7231, "text": 64, "version": 64}
-CODES = [*range(0, 35), 41, 42, 43, 44, 51, 52, *range(61, 67), 71, 72, 99, 2**32 - 1]
+CODES = [*range(0, 35), 41, 42, 43, 44, 51, 52, *range(61, 69), 71, 72, 99, 2**32 - 1]
 FORMS = [0, 0, 1, 2, 2, 3]
 
 
 def call(rng: random.Random, name: str, *arguments: "bytes | str | int") -> str:
-    """Returns the line of a call. Now and then the room for its output is short, or longer than it needs."""
+    """Returns the line of a call, with NULL for what is empty. Now and then the room for its output is short, or longer than it needs."""
     room = ENOUGH.get(name, 0)
     if rng.random() < 0.15:
         room = rng.choice([0, 1, rng.randrange(room + 1), rng.randrange(min(room, 200) + 1), room + rng.randrange(1000)])
-    told = (str(it) if isinstance(it, int) else "x" + (it if isinstance(it, bytes) else it.encode()).hex() for it in arguments)
-    return " ".join([name, *told, str(room)])
+    return driver.line(name, [it if isinstance(it, int) else it or None for it in arguments], room)
 
 
 def parse_call(rng: random.Random) -> str:
@@ -69,10 +54,20 @@ def status_call(rng: random.Random) -> str:
     return call(rng, "status", compare.made_backup(rng)[0])
 
 
+def quorums_call(rng: random.Random) -> str:
+    return call(rng, "quorums", compare.made_backup(rng)[0])
+
+
 def reissue_call(rng: random.Random) -> str:
     data, _ = compare.made_backup(rng)
     plan = compare.plan_of(rng, data)
     return call(rng, "reissue", plan, compare.names_of(rng, plan), data)
+
+
+def resplit_call(rng: random.Random) -> str:
+    data, _ = compare.made_backup(rng)
+    plan = compare.made_plan(rng)
+    return call(rng, "resplit", plan, data, compare.random_for(rng, plan, data))
 
 
 def repair_call(rng: random.Random) -> str:
@@ -101,13 +96,14 @@ def version_call(rng: random.Random) -> str:
 
 def wipe_call(rng: random.Random) -> str:
     given = rng.randbytes(rng.randrange(300))
-    return f"wipe x{given.hex()} {len(given)}"
+    return driver.line("wipe", [given or None], len(given))
 
 
 # How often each call is made. Those that decrypt take longest under an emulator.
 KINDS: Dict[Callable[[random.Random], str], int] = {
     parse_call: 18, random_needed_call: 8, create_call: 5, recover_call: 6, drill_call: 5, status_call: 12, reissue_call: 12,
     repair_call: 14, fingerprint_call: 6, words_call: 6, text_call: 6, version_call: 1, wipe_call: 1,
+    quorums_call: 6, resplit_call: 8,
 }  # fmt: skip
 
 

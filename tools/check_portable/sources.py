@@ -3,17 +3,18 @@ exports and takes, and that an empty folder with them gives a working library.""
 import pathlib
 import re
 import shutil
-import subprocess
-import tempfile
 from typing import Set
 
 import builds
+import driver
+import worked
 from builds import ROOT, Failed, run
 
 LIBC = {"memcpy", "memmove", "memset", "malloc", "free"}
 # A compiler takes these for a position-independent file, and for guards that the system asks for by default.
 OF_COMPILER = {"_GLOBAL_OFFSET_TABLE_", "__stack_chk_fail"}
-FIRST_CALL = "done\n"
+FIRST_CALL = r"0\.0\+0\.1 ([0-9a-f]{8})\n0\.0\+0\.2 \1\n0\.1\+0\.2 \1\nend\n"
+NO_MEMORY = worked.Answer(4, "no memory left for the call")
 IN_CXX = """
 #include "shamir.h"
 int main()
@@ -42,8 +43,8 @@ def has_right_symbols(folder: str) -> None:
     """Sees that shamir.c exports the calls of the header alone, and takes a few functions of the C library."""
     calls = set(re.findall(r"^(?:shamir_answer|void) (shamir_\w+)\(", (builds.DIST / "shamir.h").read_text(), re.MULTILINE))
     for option in ["-O2", "-Os", "-O0"]:
-        run(["gcc", "-std=c99", option, "-c", str(builds.DIST / "shamir.c"), "-o", f"{folder}/shamir.o"])
-        exported, needed = symbols(f"{folder}/shamir.o", "--defined-only"), symbols(f"{folder}/shamir.o", "--undefined-only")
+        file = builds.compiled("gcc", option)
+        exported, needed = symbols(file, "--defined-only"), symbols(file, "--undefined-only")
         if exported != calls:
             raise Failed(f"with {option}, shamir.c exports {sorted(exported ^ calls)} or lacks them")
         if needed - LIBC - OF_COMPILER:
@@ -54,14 +55,14 @@ def compiles_strictly(folder: str) -> None:
     """Sees that compilers of C and of C++ take the files without a warning."""
     for compiler in ["gcc", "clang"]:
         if shutil.which(compiler):
-            words = [compiler, "-std=c99", "-pedantic", *builds.STRICT, "-Wno-overlength-strings", "-O2", "-c", "-o", f"{folder}/strict.o"]
-            for name in ["shamir.c", "test.c"]:
-                run([*words, str(builds.DIST / name)])
+            builds.compiled(compiler, "-O2")
+            words = ["-std=c99", "-pedantic", *builds.STRICT, "-Wno-overlength-strings", "-O2", "-c"]
+            run([compiler, *words, str(builds.DIST / "test.c"), "-o", f"{folder}/test.o"])
     if shutil.which("g++"):
-        run(["g++", *builds.STRICT, "-O2", "-x", "c++", "-c", str(builds.DIST / "shamir.c"), "-o", f"{folder}/cxx.o"])
+        run(["g++", *builds.STRICT, "-O0", "-x", "c++", "-c", str(builds.DIST / "shamir.c"), "-o", f"{folder}/cxx.o"])
         pathlib.Path(folder, "user.cpp").write_text(IN_CXX)
-        run(["gcc", "-O2", "-c", str(builds.DIST / "shamir.c"), "-o", f"{folder}/c.o"])
-        run(["g++", *builds.STRICT, f"-I{builds.DIST}", f"{folder}/user.cpp", f"{folder}/c.o", "-o", f"{folder}/user"])
+        library = builds.compiled("gcc", "-O2")
+        run(["g++", *builds.STRICT, f"-I{builds.DIST}", f"{folder}/user.cpp", library, "-o", f"{folder}/user"])
         run([f"{folder}/user"])
 
 
@@ -76,23 +77,25 @@ def works_in_an_empty_folder(folder: str) -> str:
     page = (builds.DIST / "README.md").read_text()
     [first] = re.findall(r"```c\n(.*?)```", page, re.DOTALL)
     (empty / "first.c").write_text(first)
-    run(["cc", "-O2", "first.c", "shamir.c", "-o", "first"], cwd=empty)
-    if run(["./first"], cwd=empty).decode() != FIRST_CALL:
-        raise Failed("the first call of dist/c/README.md prints something else than `done`")
+    run(["cc", "-O2", "first.c", builds.compiled("gcc", "-O2"), "-o", "first"], cwd=empty)
+    if not re.fullmatch(FIRST_CALL, run(["./first"], cwd=empty).decode()):
+        raise Failed("the first call of dist/c/README.md doesn't list the quorums of a new backup")
     return said.strip()
 
 
 def refuses_without_memory(folder: str) -> None:
-    for words in [["-O2"], ["-O1", *builds.SANITIZED]]:
-        source = str(builds.HERE / "no_memory.c")
-        run(["gcc", "-std=c99", *words, f"-I{builds.DIST}", source, "-o", f"{folder}/no_memory"])
-        done = subprocess.run([f"{folder}/no_memory"], capture_output=True, text=True)
-        if done.returncode:
-            raise Failed(f"without memory: {done.stdout}{done.stderr}")
+    """Makes the first worked example of each call, with an allocator that counts its blocks. Without memory, each is refused and
+    changes nothing. Only the text of this refusal needs no memory."""
+    firsts = {it.call: it for it in reversed([*worked.examples()]) if it.answer.code == 0}.values()
+    made = [call for it in firsts for call in worked.calls_of(it)]
+    told = worked.example("text", [NO_MEMORY.code, 0, 0, 0, 0, 0], worked.DONE, NO_MEMORY.told)
+    refused = [(line, worked.wanted(NO_MEMORY)) for line, _ in made] + [*worked.calls_of(told)][:2]
+    for words in [["-O2"], ["-O0", *builds.SANITIZED]]:
+        program = driver.built(f"{folder}/driver", ["gcc"], *words, f"-I{builds.DIST}", str(builds.HERE / "no_memory.c"))
+        worked.check(["env", "ASAN_OPTIONS=detect_leaks=0", program], made)
+        worked.check(["env", "ASAN_OPTIONS=detect_leaks=0", "EMPTY=1", program], refused)
 
 
 def has_worked_examples(folder: str) -> None:
-    """Runs the worked examples of tools/library.c with the library as plain C."""
-    words = ["gcc", "-std=c99", "-O2", f"-I{builds.DIST}", str(ROOT / "tools" / "library.c"), str(builds.DIST / "shamir.c"), "-o", f"{folder}/examples"]
-    run(words)
-    run([f"{folder}/examples"])
+    """Makes the worked examples with the library as plain C."""
+    worked.check([driver.built(f"{folder}/driver", ["gcc"], "-O2", f"-I{builds.DIST}", builds.compiled("gcc", "-O2"))], worked.calls())

@@ -1,12 +1,29 @@
 """Measures the library as plain C beside libshamir.a, in one run. No time makes it fail."""
+import importlib
 import tempfile
-from typing import Dict, List
+from typing import Any, Dict, List
 
 import builds
+import driver
 from builds import ROOT, run
 
+plain: Any = importlib.import_module("plain")
+
 REPEATS = 5
-CALLS = ["parse", "recover", "drill of 12,870 quorums"]
+DRILLED = 12870
+
+
+def calls() -> Dict[str, "tuple[str, int]"]:
+    """Returns the calls that are measured, each with how often it is made."""
+    plan, drawn = plain.parse_plan("8of16"), bytes((91 * i + 17) % 256 for i in range(1000))
+    shares = plain.create(plan, bytes(32), b"", 0, True, drawn[: plain.random_needed(plan, 32)])
+    lines = [plain.mnemonic(share) for share in shares]
+    backup = "".join(line + "\n" for line in lines)
+    return {
+        "parse": (driver.line("parse", [lines[0]], 128), 20000),
+        "recover": (driver.line("recover", [backup, None, 15, None], 128), 20),
+        f"drill of {DRILLED:,} quorums": (driver.line("drill", [backup, None, 15, None, DRILLED, 1, None], 4 << 20), 1),
+    }
 
 
 def libraries() -> Dict[str, List[str]]:
@@ -16,7 +33,7 @@ def libraries() -> Dict[str, List[str]]:
 
 
 def times_of(program: str) -> List[float]:
-    return [float(it) for it in run([program]).split()]
+    return [float(time) for line, count in calls().values() for time in driver.answers([program], [line], "times", str(count))]
 
 
 def measure() -> None:
@@ -25,12 +42,12 @@ def measure() -> None:
         programs: Dict[str, str] = {}
         for name, words in libraries().items():
             programs[name] = f"{folder}/{len(programs)}"
-            run(["gcc", "-std=c99", "-O2", f"-I{builds.DIST}", str(builds.HERE / "speed.c"), *words, "-o", programs[name]])
+            run(["gcc", "-std=c99", "-O2", f"-I{builds.DIST}", str(driver.SOURCE), *words, "-o", programs[name]])
         # The programs take turns, so that what else runs slows down all of them.
         found = [{name: times_of(program) for name, program in programs.items()} for _ in range(REPEATS)]
         best = {name: [min(times) for times in zip(*(turn[name] for turn in found))] for name in programs}
         for name, times in best.items():
-            for call, time, native in zip(CALLS, times, best["libshamir.a"]):
+            for call, time, native in zip(calls(), times, best["libshamir.a"]):
                 print(f"{name}, {call}: {time:.1f} us, {time / native:.2f} times that of libshamir.a")
         run(["arm-linux-gnueabihf-gcc", "-std=c99", "-Os", "-c", str(builds.DIST / "shamir.c"), "-o", f"{folder}/arm.o"])
         text = int(run(["size", f"{folder}/arm.o"]).split()[6])

@@ -22,8 +22,9 @@ SHOWN = 8
 
 def is_cleared(target: builds.Target, folder: str) -> str:
     """Sees that no call leaves anything secret on the stack, and all of it 0 below its own frame. Returns how many calls were made."""
-    compiler = [target.compiler, "-std=c11", *builds.STRICT, *target.words, f"-I{builds.DIST}"]
-    told, count, deepest = calls.all_leftovers(compiler, str(builds.DIST / "shamir.c"), LENGTHS, FRAME)
+    compiler = [target.compiler, *target.words, f"-I{builds.DIST}"]
+    library = builds.compiled(target.compiler, *target.words)
+    told, count, deepest = calls.all_leftovers(compiler, library, LENGTHS, FRAME)
     if told:
         raise Failed(f"{target.name}: something is left on the stack\n  " + "\n  ".join(told[:SHOWN]))
     return f"{target.name}: after each of {count} calls, nothing secret is left on the stack; below {deepest} bytes, all of it is 0"

@@ -3,11 +3,11 @@ secret in its memory.
 
     python3 tools/leftovers [--archive PATH] [--program PATH]
 
-Of the library, it compiles tools/leftovers.c with libshamir.a. This program makes one call, and gives what then lies below the frame of the caller.
-There, the tool searches for the secret, the encrypted secret, the passphrase, the random bytes and the values of shares: their bytes
-and digits, and any eight of these in a row. It also searches for any three words of a mnemonic in a row. And it checks that what
-the call touched is 0. Only the highest FRAMES bytes may be others, where the frames of the call and of the clearing are, and the
-lowest eight, where the clearing puts the address to which its last step returns.
+Of the library, it makes calls by tools/check_portable/driver.c, which gives what then lies below the frame of the caller. There, the
+tool searches for the secret, the encrypted secret, the passphrase, the random bytes and the values of shares: their bytes and digits,
+and any eight of these in a row. It also searches for any three words of a mnemonic in a row. And it checks that what the call
+touched is 0. Only the highest FRAMES bytes may be others, where the frames of the call and of the clearing are, and the lowest
+eight, where the clearing puts the address to which its last step returns.
 
 It also adds up the frames of the functions that a call reaches, as objdump shows them. A call must clear as much, whatever it is
 given. The tool needs a C compiler for x86-64 and objdump. It says what it doesn't check without them.
@@ -43,7 +43,7 @@ import frames  # noqa: E402
 from left_out import left_out  # noqa: E402
 
 COMPILER = os.environ.get("CC", "cc").split()
-STRICT = ["-std=c11", "-O1", "-Wall", "-Wextra", "-Werror", "-pedantic", f"-I{ROOT}/include"]
+INCLUDED = ["-O1", f"-I{ROOT}/include"]
 FRAMES = 384
 SHOWN = 20
 
@@ -63,7 +63,7 @@ def of_calls(archive: pathlib.Path) -> List[str]:
     if not shutil.which(COMPILER[0]):
         left_out(f"{COMPILER[0]} isn't here, so nothing looks for what the calls of the library leave on the stack")
         return []
-    told, count, deepest = calls.all_leftovers([*COMPILER, *STRICT], str(archive), cases.LENGTHS, FRAMES)
+    told, count, deepest = calls.all_leftovers([*COMPILER, *INCLUDED], str(archive), cases.LENGTHS, FRAMES)
     if shutil.which("objdump"):
         told += too_deep(archive)
     else:

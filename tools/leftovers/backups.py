@@ -2,8 +2,8 @@
 import importlib
 import random
 import re
-from dataclasses import dataclass
-from typing import Any, Dict, Iterator, List, Tuple
+from dataclasses import dataclass, replace
+from typing import Any, Dict, Iterator, List, Optional, Tuple
 
 plain: Any = importlib.import_module("plain")
 
@@ -17,12 +17,13 @@ FILLED = re.compile(rb"[\1-\xff](?:\0{0,7}[\1-\xff])*")
 
 @dataclass(frozen=True)
 class Backup:
-    """A backup by a plan, without the extendable flag and with the exponent 0."""
+    """A backup by a plan, with the exponent 0, and the backup into which it is split anew, if it is."""
 
     plan: str
     secret: bytes
     random: bytes
     shares: List[Dict[str, Any]]
+    anew: Optional["Backup"] = None
 
     @property
     def mnemonics(self) -> List[bytes]:
@@ -34,11 +35,18 @@ class Backup:
         return b"".join(line + b"\n" for name, line in zip(taken, self.mnemonics) if name in names or not names)
 
 
-def created(plan: str, length: int) -> Backup:
+def created(plan: str, length: int, extendable: bool = False) -> Backup:
     draw = random.Random(f"{plan} {length}")
     secret = draw.randbytes(length)
     given = draw.randbytes(plain.random_needed(plain.parse_plan(plan), length))
-    return Backup(plan, secret, given, plain.create(plain.parse_plan(plan), secret, PASSPHRASE, 0, False, given))
+    return Backup(plan, secret, given, plain.create(plain.parse_plan(plan), secret, PASSPHRASE, 0, extendable, given))
+
+
+def split_anew(plan: str, new_plan: str, length: int) -> Backup:
+    """Returns an extendable backup, with that into which it is split anew by another plan."""
+    old = created(plan, length, True)
+    given = random.Random(f"{new_plan} anew {length}").randbytes(plain.random_needed(plain.parse_plan(new_plan), length))
+    return replace(old, anew=Backup(new_plan, old.secret, given, plain.resplit(plain.parse_plan(new_plan), old.lines(), given)))
 
 
 def values(backup: Backup) -> Iterator[Tuple[str, bytes]]:
@@ -82,6 +90,11 @@ class Needles:
 
     def __init__(self, backup: Backup) -> None:
         self._found: Dict[bytes, List[Tuple[bytes, str]]] = {}
+        self._add_backup(backup)
+        if backup.anew:
+            self._add_backup(backup.anew)
+
+    def _add_backup(self, backup: Backup) -> None:
         for name, value in values(backup):
             for form in forms(value):
                 for at in range(max(1, len(form) - WINDOW + 1)):

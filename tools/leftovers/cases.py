@@ -2,21 +2,22 @@
 from dataclasses import dataclass
 from typing import Any, Dict, Iterator, List, Union
 
-from backups import PASSPHRASE, Backup, created, plain
+from backups import PASSPHRASE, Backup, created, plain, split_anew
 
 PLAN = "2/2of3,1of1,3of5"
+NEW_PLAN = "2/1of1,3of4"
 LENGTHS = [16, 18, 32, 128]
 MANY = ",".join(["16of16"] * 16)
 ROOM = 253440
 # These calls get something secret.
-CALLS = ["parse", "create", "recover", "drill", "status", "reissue", "repair", "fingerprint", "words"]
+CALLS = ["parse", "create", "recover", "drill", "status", "quorums", "reissue", "resplit", "repair", "fingerprint", "words"]
 
 Argument = Union[bytes, str, int]
 
 
 @dataclass(frozen=True)
 class Case:
-    """A call with its arguments, and the code that it must answer."""
+    """A call with its arguments and the room for its output, and the code that it must answer."""
 
     call: str
     code: int
@@ -55,7 +56,7 @@ def creations(backup: Backup) -> Iterator[Case]:
 
 
 def refused_lines(backup: Backup) -> Iterator[Case]:
-    """Yields lines that recover, drill and status refuse, as cases of status."""
+    """Yields lines that recover, drill, status and quorums refuse, as cases of status."""
     first = backup.shares[0]
     good = backup.lines("0.0")
     for code, line in [
@@ -71,7 +72,7 @@ def refused_lines(backup: Backup) -> Iterator[Case]:
 
 
 def readings(backup: Backup) -> Iterator[Case]:
-    """Yields what recover, drill and status do with lines."""
+    """Yields what recover, drill, status and quorums do with lines."""
     fingerprint = plain.told(backup.secret, True).strip()
     enough, lines = backup.lines("0.0", "0.2", "1.0"), backup.lines()
     mixed = backup.lines("0.0", "1.0") + other_value(backup.shares[1])
@@ -107,8 +108,11 @@ def readings(backup: Backup) -> Iterator[Case]:
     yield Case("drill", 41, [lines, PASSPHRASE + b"\x07", 15, "", 9, 0, "", ROOM])
     for code, given, room in [(0, lines, ROOM), (1, lines, 10), (29, b"", ROOM)]:
         yield Case("status", code, [given, room])
+    for code, given in [(0, lines), (0, backup.lines("0.0")), (29, b"")]:
+        yield Case("quorums", code, [given, 0])
     for case in refused_lines(backup):
         yield case
+        yield Case("quorums", case.code, [case.arguments[0], 0])
         yield Case("recover", case.code, [case.arguments[0], PASSPHRASE, 15, "", 128])
         yield Case("drill", case.code, [case.arguments[0], PASSPHRASE, 15, "", 9, 0, "", ROOM])
 
@@ -130,6 +134,28 @@ def reissues(backup: Backup) -> Iterator[Case]:
         (66, backup.plan, "0.2", backup.lines("0.0", "2.0"), ROOM),
     ]:
         yield Case("reissue", code, [plan, names, lines, room])
+
+
+def resplits(backup: Backup) -> Iterator[Case]:
+    """Yields what resplit does with the lines of an extendable backup."""
+    assert backup.anew
+    new, lines = backup.anew, backup.lines("0.0", "0.2", "1.0")
+    mixed = backup.lines("0.0", "1.0") + other_value(backup.shares[1])
+    fixed = with_fields(backup.shares[3], extendable=0, group_threshold=1)
+    same = backup.random[:2] + new.random[2:]
+    for code, plan, given, drawn, room in [
+        (0, new.plan, lines, new.random, ROOM),
+        (1, new.plan, lines, new.random, 100),
+        (13, new.plan, wrong_word(lines, 9), new.random, ROOM),
+        (29, new.plan, b"", new.random, ROOM),
+        (30, new.plan, backup.lines("0.1", "1.0"), new.random, ROOM),
+        (31, "2of", lines, new.random, ROOM),
+        (43, new.plan, lines, new.random[1:], ROOM),
+        (51, new.plan, mixed, new.random, ROOM),
+        (67, new.plan, fixed, new.random, ROOM),
+        (68, new.plan, lines, same, ROOM),
+    ]:
+        yield Case("resplit", code, [plan, given, drawn, room])
 
 
 def lines_alone(backup: Backup) -> Iterator[Case]:
@@ -163,6 +189,7 @@ def greatest(backup: Backup) -> Iterator[Case]:
     yield Case("recover", 0, [lines, PASSPHRASE, 15, "", 128])
     yield Case("drill", 0, [lines, PASSPHRASE, 15, "", 2, 0, "", ROOM])
     yield Case("status", 0, [lines, ROOM])
+    yield Case("quorums", 0, [lines, 0])
     yield Case("reissue", 0, [backup.plan, "15.15", lines[: lines.rindex(b"\n", 0, -1) + 1], ROOM])
 
 
@@ -170,5 +197,10 @@ def all_cases() -> Iterator[tuple[Backup, List[Case]]]:
     for length in LENGTHS:
         backup = created(PLAN, length)
         yield backup, [case for cases in (creations, readings, reissues, lines_alone) for case in cases(backup)]
+        backup = split_anew(PLAN, NEW_PLAN, length)
+        yield backup, list(resplits(backup))
     backup = created(f"15/{MANY}", 128)
     yield backup, list(greatest(backup))
+    backup = split_anew(f"15/{MANY}", f"16/{MANY}", 128)
+    assert backup.anew
+    yield backup, [Case("resplit", 0, [backup.anew.plan, backup.lines(), backup.anew.random, ROOM])]

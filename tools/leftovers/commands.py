@@ -13,12 +13,14 @@ from devices import How
 OF_A_CALL = [1, 2, 3]
 READ_FAILED, WRITE_FAILED = 72, 73
 MOST = 1024
-# A word that begins so stands for a file with the rest as its text.
+# A word that begins so stands for a file with the rest as its bytes.
 IN_FILE = "FILE:"
 CUT_OFF, FULL = How(is_cut=True), How(is_full=True)
-UNKNOWN_WORD = 13
+UNKNOWN_WORD, RANDOM_LENGTH = 13, 43
+# The most random bytes that a backup takes. The program reads at most one more.
+MOST_RANDOM = 32574
 # Each command needs less of the stack than this, and `main` takes more before it reads anything.
-SHORT = 344 << 10
+SHORT = 376 << 10
 
 
 @dataclass(frozen=True)
@@ -46,11 +48,16 @@ class Run:
         return any(word.startswith(IN_FILE) for word in self.words)
 
 
+def in_file(data: bytes) -> str:
+    """Returns the word for a file with these bytes."""
+    return IN_FILE + data.decode("latin-1")
+
+
 def placed(option: str, value: bytes, is_line: bool) -> Tuple[List[str], bytes]:
     """Returns the words for a value in a file or in a line of the input, and this line."""
     if is_line:
         return [f"--{option}-file", "-"], value + b"\n"
-    return [f"--{option}-file", IN_FILE + value.decode("latin-1")], b""
+    return [f"--{option}-file", in_file(value + b"\n")], b""
 
 
 def creation(plan: str, secret: bytes, passphrase: bytes, drawn: bytes, is_line: bool, code: int, status: int) -> Run:
@@ -58,6 +65,10 @@ def creation(plan: str, secret: bytes, passphrase: bytes, drawn: bytes, is_line:
     first, line = placed("master-secret", secret, is_line)
     second, line_after = placed("passphrase", passphrase, is_line)
     return Run(["create", plan, *first, *second], line + line_after + drawn, code, status)
+
+
+def split_anew(plan: str, lines: bytes, random_file: str, code: int = 0, status: int = 0, how: How = How()) -> Run:
+    return Run(["resplit", plan, "--random-file", random_file], lines, code, status, how)
 
 
 def text(given: cases.Argument) -> str:
@@ -89,6 +100,8 @@ def like(case: cases.Case, is_line: bool) -> Iterator[Run]:
         return
     elif case.call == "reissue":
         yield Run(["reissue", text(it[0]), text(it[1])], raw(it[2]), case.code, status)
+    elif case.call == "resplit":
+        yield split_anew(text(it[0]), raw(it[1]), in_file(raw(it[2])), case.code, status)
     elif case.call in ("status", "repair", "parse"):
         yield Run([{"parse": "show"}.get(case.call, case.call)], raw(it[0]), case.code, status)
 
@@ -120,13 +133,23 @@ def failures(backup: Backup, is_line: bool) -> Iterator[Run]:
         yield Run(refused, line + lines, status=0 if "--help" in refused else 2)
 
 
+def failures_of_a_split(old: Backup, new: Backup) -> Iterator[Run]:
+    """Yields runs of `resplit` whose devices or whose file of random bytes fail, and one whose file has more than is read of it."""
+    lines, drawn = old.lines(), in_file(new.random)
+    yield split_anew(new.plan, lines, drawn, READ_FAILED, 3, CUT_OFF)
+    yield split_anew(new.plan, lines, drawn, WRITE_FAILED, 3, FULL)
+    # The length of this name is no index of a word beside 256 and 0, as three words of a mnemonic have them.
+    yield split_anew(new.plan, lines, "no-such-file", status=3)
+    yield split_anew(new.plan, lines, in_file(new.random + bytes(MOST_RANDOM)), RANDOM_LENGTH, 1)
+
+
 def at_terminals(runs: List[Run]) -> Iterator[Run]:
     """Yields these runs at a terminal: all of them typed, and the sound ones and one kind of refusal also with their output shown.
-    `create` takes no random bytes that are typed.
+    `create` takes no random bytes that are typed, and `resplit` always has a file of them.
     """
     for run in runs:
-        is_creation = run.words[0] == "create"
-        if run.has_files or run.how.is_cut or is_creation and not run.is_sound:
+        is_creation, is_split = (run.words[0] == command for command in ("create", "resplit"))
+        if run.has_files and not is_split or run.how.is_cut or is_creation and not run.is_sound:
             continue
         typed = replace(run, status=2 if is_creation else run.status, how=replace(run.how, is_typed=True))
         yield typed
@@ -142,9 +165,9 @@ def without_stack(runs: List[Run]) -> Iterator[Run]:
             yield replace(run, status=-signal.SIGSEGV, how=How(stack=SHORT))
 
 
-def greatest(backup: Backup) -> Iterator[Run]:
+def greatest(backup: Backup, made: List[cases.Case]) -> Iterator[Run]:
     """Yields the runs with the most groups and members."""
-    for case in cases.greatest(backup):
+    for case in made:
         yield from like(case, False)
     yield Run(["show"], backup.lines())
     yield Run(["repair"], backup.lines())
@@ -154,7 +177,10 @@ def all_runs() -> Iterator[Tuple[Backup, List[Run]]]:
     for backup, made in cases.all_cases():
         if backup.plan == cases.PLAN:
             runs = [run for case in made for is_line in (False, True) for run in like(case, is_line)]
-            runs += [run for is_line in (False, True) for run in failures(backup, is_line)]
+            if backup.anew:
+                runs += failures_of_a_split(backup, backup.anew)
+            else:
+                runs += [run for is_line in (False, True) for run in failures(backup, is_line)]
             yield backup, [*runs, *at_terminals(runs), *without_stack(runs)]
         else:
-            yield backup, list(greatest(backup))
+            yield backup, list(greatest(backup, made))

@@ -50,7 +50,7 @@ def ended(program: str, run: commands.Run) -> exits.End:
         for word in run.words:
             if word.startswith(commands.IN_FILE):
                 path = pathlib.Path(folder, f"value{len(words)}")
-                path.write_bytes(word[len(commands.IN_FILE) :].encode("latin-1") + b"\n")
+                path.write_bytes(word[len(commands.IN_FILE) :].encode("latin-1"))
                 word = path.name
             words.append(word)
         return exits.ended(words, run.given, folder, run.how)

@@ -82,8 +82,12 @@ class Sizes:
 
 
 def sizes_of(archive: str, calls: List[str]) -> Dict[str, Sizes]:
-    """Returns the sizes of calls of the library. One that clears nothing clears 0 bytes."""
-    functions = functions_of(archive)
+    """Returns the sizes of calls of the library."""
+    return sizes_in(functions_of(archive), calls)
+
+
+def sizes_in(functions: Dict[str, Function], calls: List[str]) -> Dict[str, Sizes]:
+    """Returns the sizes of calls by the functions that there are. One that clears nothing clears 0 bytes."""
     depth = depth_in(functions)
     found = {}
     for call in calls:

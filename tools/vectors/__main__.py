@@ -5,8 +5,8 @@
 
 What is right comes from a plain reading of the standard in Python (tools/plain.py). The library, by its Python binding, and the
 program have to agree with every case. So has `shamir.mnemonic`, for the cases in the standard's own form. Each planted mistake
-has to be caught by a case, and each case has to catch one. Electrum, if it is here, has to answer as vectors/README.md says. The
-tool exits with status 1 if something differs.
+has to be caught by a case, and each case has to catch one. Electrum, if it is here, has to answer as vectors/README.md says, and to
+combine the mnemonics of a backup that is split anew to what the new ones combine to. The tool exits with status 1 if something differs.
 """
 import argparse
 import multiprocessing
@@ -85,6 +85,7 @@ def main():
     check_agreement()
     check_reference_calls()
     page.check_electrum()
+    page.check_sealed()
     print(f"vectors: {len(data.cases())} cases agree with ./shamir and the library, and catch all of {len(mistakes)} planted mistakes")
 
 

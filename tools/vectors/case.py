@@ -57,7 +57,12 @@ def created(reader, given):
     return {"mnemonics": [reader.mnemonic(share) for share in shares]}
 
 
-ASKED = {"parse": parsed, "recover": recovered, "quorums": drilled, "create": created}
+def split_anew(reader, given):
+    plan, data = reader.parse_plan(given["plan"]), "\n".join(given["mnemonics"]).encode()
+    return {"mnemonics": [reader.mnemonic(share) for share in reader.resplit(plan, data, bytes.fromhex(given["random"]))]}
+
+
+ASKED = {"parse": parsed, "recover": recovered, "quorums": drilled, "create": created, "resplit": split_anew}
 
 
 def refused(refusal):

@@ -12,15 +12,18 @@ import re
 import one_mnemonic
 import plain
 import recovery
+import resplits
 import sets
 from backups import PASSPHRASE
 from case import Case, answer, differs, wrong_answer
 from mistakes import MISTAKES, Mistake, mistaken
 
 FOLDER = plain.ROOT / "vectors"
-KINDS = one_mnemonic.KINDS | sets.KINDS | recovery.KINDS
+KINDS = one_mnemonic.KINDS | sets.KINDS | recovery.KINDS | resplits.KINDS
 # So many of the cases that catch a mistake are listed. Those that the standard's rules decide come first.
 MOST_LISTED = 5
+# What a writer is asked.
+WRITTEN = ("create", "resplit")
 # BIP-32 makes keys of seeds of 16 to 64 bytes.
 MOST_SEED_BYTES = 64
 # No case is decrypted with a greater exponent, so that a reader is done in seconds.
@@ -72,10 +75,10 @@ def catching(reader, among):
 def tried(mistake):
     """Returns a mistake with the first cases that catch it, and whether the standard's vectors and those in their form do.
 
-    A writer is asked for creations alone, so vectors that only recover can't catch one.
+    A writer isn't asked to recover, so vectors that only recover can't catch one.
     """
     reader = mistaken(mistake)
-    asked = [(case, right) for _, case, right in cases() if mistake.of == "reader" or case.asks == "create"]
+    asked = [(case, right) for _, case, right in cases() if mistake.of == "reader" or case.asks in WRITTEN]
     caught = list(itertools.islice(catching(reader, sorted(asked, key=lambda found: found[0].standard is None)), MOST_LISTED))
     others = {"caught_by_slip_0039": in_published_form(), "caught_by_published": published()}
     found = {name: mistake.of == "reader" and any(catching(reader, among)) for name, among in others.items()}
@@ -94,7 +97,7 @@ def mistakes():
 def is_idle(place):
     """Whether a case catches none of the mistakes."""
     _, case, right = cases()[place]
-    asked = (mistake for mistake in MISTAKES if mistake.of == "reader" or case.asks == "create")
+    asked = (mistake for mistake in MISTAKES if mistake.of == "reader" or case.asks in WRITTEN)
     return not any(differs(wrong_answer(mistaken(mistake), case), right) for mistake in asked)
 
 

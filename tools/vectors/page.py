@@ -10,6 +10,8 @@ from left_out import left_out, python_with
 
 import data
 import readers
+import resplits
+from backups import closed, indices
 from case import differs
 
 PAGE = data.FOLDER / "README.md"
@@ -79,7 +81,7 @@ def has_flag(case):
 def check_electrum():
     """Compares what Electrum answers with the rows of the page, if it is the Electrum of which the page speaks."""
     asked = [(case, right) for _, case, right in data.cases() if case.asks in ("parse", "recover")]
-    found = readers.of_electrum([case for case, _ in asked])
+    found = readers.of_electrum([(case.asks, case.given) for case, _ in asked])
     if found is None:
         left_out("Electrum isn't here (Debian: python3-electrum), so it isn't asked")
         return
@@ -94,3 +96,23 @@ def check_electrum():
     without = {id for id, flag in other.items() if not flag}
     if told != without or sentence not in text:
         sys.exit(f"vectors/README.md says of Electrum {sorted(told)}, and it differs in {sorted(without)}. {sentence!r}")
+
+
+def old_flag(share):
+    """Returns a mnemonic as an Electrum reads it that doesn't know the extendable flag: with the checksum of other mnemonics."""
+    return closed(indices(share), b"shamir")
+
+
+def check_sealed():
+    """Checks that Electrum combines a quorum of a backup, and one of the backup into which it is split anew, to one encrypted secret."""
+    asked, wanted = [], []
+    for id, quorums, encrypted in resplits.sealed():
+        asked += [("combine", {"mnemonics": list(map(old_flag, quorum))}) for quorum in quorums]
+        wanted += [(id, {"encrypted": encrypted.hex()})] * len(quorums)
+    found = readers.of_electrum(asked)
+    if found is None:
+        left_out("Electrum isn't here (Debian: python3-electrum), so it doesn't combine what is split anew")
+        return
+    for (id, right), answer in zip(wanted, found[1], strict=True):
+        if answer != right:
+            sys.exit(f"{id}: Electrum combines mnemonics to {answer}, and right is {right}")

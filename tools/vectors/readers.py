@@ -3,6 +3,7 @@ import json
 import pathlib
 import re
 import subprocess
+import tempfile
 
 from case import FIELDS, refused
 
@@ -27,9 +28,12 @@ def recovered(given):
         return {"exponent": sealed.iteration_exponent}
     return {"secret": sealed.decrypt(given["passphrase"]).hex()}
 
+def combined(given):
+    return {"encrypted": slip39.recover_ems(given["mnemonics"]).encrypted_master_secret.hex()}
+
 def answer(asks, given):
     try:
-        return {"parse": parsed, "recover": recovered}[asks](given)
+        return {"parse": parsed, "recover": recovered, "combine": combined}[asks](given)
     except slip39.Slip39Error as error:
         return {"refused": str(error)}
     except Exception as error:
@@ -50,6 +54,8 @@ def library(shamir, case):
             return {"secret": shamir.recover(given["mnemonics"], passphrase=given["passphrase"]).hex()}
         if case.asks == "quorums":
             return {"quorums": [of_outcome(shamir, outcome) for outcome in shamir.drill(given["mnemonics"], passphrase=given["passphrase"])]}
+        if case.asks == "resplit":
+            return {"mnemonics": shamir.resplit(given["plan"], given["mnemonics"], random=bytes.fromhex(given["random"]))}
         options = {name: given[name] for name in ("passphrase", "exponent", "extendable")}
         return {"mnemonics": shamir.create(given["plan"], bytes.fromhex(given["secret"]), random=bytes.fromhex(given["random"]), **options)}
     except shamir.Refusal as refusal:
@@ -76,9 +82,24 @@ def words_and_input(case):
 
 def of_program(program, case):
     """Returns what the program answers, or None for an empty mnemonic, which is no line of an input."""
+    if case.asks == "resplit":
+        return of_resplit(program, case)
     words, data = words_and_input(case)
     if words == ["show"] and not data:
         return None
+    return of_command(program, case, words, data)
+
+
+def of_resplit(program, case):
+    """Returns what the program answers to a split anew, whose random bytes it reads from a file."""
+    with tempfile.NamedTemporaryFile() as kept:
+        kept.write(bytes.fromhex(case.given["random"]))
+        kept.flush()
+        words = ["resplit", case.given["plan"], "--random-file", kept.name]
+        return of_command(program, case, words, "".join(line + "\n" for line in case.given["mnemonics"]).encode())
+
+
+def of_command(program, case, words, data):
     done = subprocess.run([program, *words], input=data, capture_output=True)
     output, errors = done.stdout.decode(), done.stderr.decode()
     told = re.fullmatch(r"shamir: (?:line (\d+): )?(\d+) (.*)\n", errors)
@@ -116,14 +137,15 @@ PRINTED = {
     "recover": lambda output: {"secret": output.strip()},
     "quorums": of_drill,
     "create": lambda output: {"mnemonics": output.splitlines()},
+    "resplit": lambda output: {"mnemonics": output.splitlines()},
 }
 
 
 def of_electrum(cases):
-    """Returns the version of Electrum and its answers, or None if it isn't here."""
+    """Returns the version of Electrum and its answers to cases, each what it asks and what is given. Returns None if it isn't here."""
     if not pathlib.Path(PYTHON).exists() or subprocess.run([PYTHON, "-c", "import electrum.slip39"], capture_output=True).returncode:
         return None
-    done = subprocess.run([PYTHON, "-c", READER], input=json.dumps([(case.asks, case.given) for case in cases]), capture_output=True, text=True)
+    done = subprocess.run([PYTHON, "-c", READER], input=json.dumps(cases), capture_output=True, text=True)
     if done.returncode:
         raise RuntimeError(done.stderr)
     return json.loads(done.stdout)

@@ -1,7 +1,8 @@
-"""Mistakes of a writer: a creation from a plan, a secret and random bytes."""
+"""Mistakes of a writer: a creation from a plan, a secret and random bytes, or a backup whose encrypted secret is split anew."""
 
 CHECK = 'check = polymod(customization(share["extendable"]) + data + [0, 0, 0]) ^ 1'
 LENGTH = "if n % 2 or not 16 <= n <= MAX_SECRET_BYTES:"
+NEW = '"id": identifier_of(take(2)), "extendable": old["extendable"], "exponent": old["exponent"]}'
 
 WRITING = [
     (
@@ -18,7 +19,7 @@ WRITING = [
     ("written-checksum-constant", "leaves out the last step of the checksum", (CHECK, CHECK.replace(" ^ 1", ""))),
     (
         "written-identifier", "takes the upper 15 bits of the random bytes for the identifier",
-        ('int.from_bytes(take(2), "big") % 2**15', 'int.from_bytes(take(2), "big") >> 1'),
+        ('int.from_bytes(two, "big") % 2**15', 'int.from_bytes(two, "big") >> 1'),
     ),
     (
         "written-group-count", "writes the greatest index of a group in place of the group count",
@@ -30,7 +31,7 @@ WRITING = [
     ),
     (
         "written-unencrypted", "splits the secret unencrypted",
-        ("split(threshold, len(groups), encrypt(secret, passphrase, params), take)", "split(threshold, len(groups), secret, take)"),
+        ("split_by_plan(plan, encrypt(secret, passphrase, params), params, take)", "split_by_plan(plan, secret, params, take)"),
     ),
     ("written-digest-behind", "has the digest behind its key", ("(254, digest(key, secret) + key)", "(254, key + digest(key, secret))")),
     ("written-no-digest", "splits without a digest", ("(254, digest(key, secret) + key)", "(254, bytes(4) + key)")),
@@ -59,4 +60,12 @@ WRITING = [
     ("written-empty-secret", "takes an empty secret", (LENGTH, "if n and (n % 2 or not 16 <= n <= MAX_SECRET_BYTES):")),
     ("written-more-random", "takes more random bytes than needed", ("if len(random) != needed:", "if len(random) < needed:")),
     ("written-fewer-random", "takes fewer random bytes than needed", ("if len(random) != needed:", "if len(random) > needed:")),
+    ("resplit-flag", "leaves the extendable flag out of a backup that is split anew", (NEW, NEW.replace('old["extendable"]', "0"))),
+    ("resplit-exponent", "gives a backup that is split anew the exponent 0", (NEW, NEW.replace('old["exponent"]', "0"))),
+    ("resplit-identifier", "gives a backup that is split anew the identifier of the old one", (NEW, NEW.replace("identifier_of(take(2))", 'old["id"]'))),
+    ("resplit-random-twice", "uses the first two random bytes twice in a backup that is split anew", (NEW, NEW.replace("take(2)", "random[:2]"))),
+    ("resplit-secret", "splits the decrypted secret anew", ("encrypted = combined(backup, quorum)", 'encrypted = outcome(backup, quorum, b"TREZOR")')),
+    ("resplit-last-quorum", "splits anew what the last quorum combines to", ("quorum = quorums(backup)[0]\n    encrypted", "quorum = quorums(backup)[-1]\n    encrypted")),
+    ("resplit-not-extendable", "splits a backup anew that isn't extendable", ('if not old["extendable"]:', "if False:")),
+    ("resplit-same-identifier", "splits a backup anew under the same identifier", ('if params["id"] == old["id"]:', "if False:")),
 ]

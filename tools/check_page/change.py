@@ -1,0 +1,315 @@
+"""'Change the plan': new papers for the secret of old ones, of an extendable backup and of another one, and what stops or refuses it.
+
+What old and new papers give is computed by the plain reading.
+"""
+import itertools
+
+from browsers import Failed
+from choices import DRAWN, FOREKNOWN, PHONE, check_green
+from long_drill import check_bar
+from refusals import changed, paste, said
+from tasks import FINGERPRINT, PASSPHRASE, SECRET, THREE_GROUPS, answer_passphrase, begin, end, fingerprint_of, plain, read_paper
+from texts import counted, say
+
+WIDE = (1280, 900)
+OTHER = "another passphrase"
+# Notes whether the page ever shows the digits of a secret.
+WATCH = """
+window.isSeen = false;
+window.watch = new MutationObserver(() => { window.isSeen ||= document.getElementById('main').textContent.replace(/\\s/g, '').includes('%s'); });
+window.watch.observe(document.getElementById('main'), { childList: true, subtree: true, characterData: true });
+null
+"""
+SEEN = "window.watch.disconnect(); window.isSeen"
+
+
+def old_papers(exponent=0):
+    """Returns the papers of an extendable backup of the secret with the passphrase: 2/2of3,1of1,1of1."""
+    plan = plain.parse_plan("2/2of3,1of1,1of1")
+    random = bytes(at * 11 % 256 for at in range(plain.random_needed(plan, 16)))
+    if exponent == 0:
+        return [plain.mnemonic(share) for share in plain.create(plan, bytes.fromhex(SECRET), PASSPHRASE.encode(), exponent, True, random)]
+    # To derive the key would take long. These papers are of some other secret.
+    return [changed(line, exponent=exponent) for line in old_papers()]
+
+
+def name_of(line):
+    share = plain.parse(line.encode())
+    return f"{share['group']}.{share['member']}"
+
+
+def pictures(page, see, what):
+    for width, height in (PHONE, WIDE):
+        page.size(width, height)
+        wide = page.evaluate("document.documentElement.scrollWidth - document.documentElement.clientWidth")
+        if wide > 0:
+            raise Failed(f"{what}: at {width} pixels the screen is {wide} pixels too wide")
+        see(f"change {what} {width}")
+
+
+def take(page, lines):
+    for line in lines:
+        paste(page, line)
+        page.wait_text(say("collect.taken", name=name_of(line)))
+    page.push(say("collect.end"))
+
+
+def type_again(page, label, text=""):
+    page.go_to("textbox", say(label))
+    page.evaluate("document.activeElement.select()")
+    page.press("Backspace")
+    page.type(text)
+
+
+def write(page, see, old, is_checked=False):
+    """Writes the new papers down, and types them back. An old paper isn't taken for a new one. Returns the new ones."""
+    page.wait_title(say("change.forms"))
+    pictures(page, see, "pen and paper")
+    page.push(say("forms.go"))
+    new = []
+    while page.title() != say("back.begin.title"):
+        shown = page.title()
+        new.append(read_paper(page))
+        page.push(say("paper.written"))
+        page.wait(lambda: page.title() != shown, "the end of a paper")
+    page.push(say("continue"))
+    for line in new:
+        page.wait_title(say("back.title", name=name_of(line)))
+        if is_checked and line == new[0]:
+            paste(page, old[0])
+            page.wait_text(say("back.foreign", name="0.0", typed="0.0"))
+            pictures(page, see, "an old paper is typed back")
+            page.push(say("clear"))
+            page.wait_text(say("clear.changed"))
+            page.push(say("clear.stay"))
+        paste(page, line)
+    page.wait_title(say("change.noted"))
+    return new
+
+
+def check_new(new, old, plan, extendable, exponent):
+    """Compares new papers with old ones, by the plain reading."""
+    shares, first = [plain.parse(line.encode()) for line in new], plain.parse(old[0].encode())
+    found = [f"{len(list(group))} of group {number}" for number, group in itertools.groupby(shares, lambda it: it["group"])]
+    needed, groups = plain.parse_plan(plan)
+    wanted = [f"{count} of group {number}" for number, (_, count) in enumerate(groups)]
+    if found != wanted or any((it["group_threshold"], it["member_threshold"]) != (needed, groups[it["group"]][0]) for it in shares):
+        raise Failed(f"the papers aren't those of the plan {plan}: {found}")
+    if any(it["id"] == first["id"] or it["extendable"] != extendable or it["exponent"] != exponent or len(it["value"]) != len(first["value"]) for it in shares):
+        raise Failed("the new papers have the old identifier, or another flag, exponent or length than they should")
+    for passphrase in (PASSPHRASE, "", OTHER):
+        is_same = fingerprint_of(old, passphrase) == fingerprint_of(new, passphrase)
+        if is_same != (passphrase == PASSPHRASE or extendable == first["extendable"] == 1):
+            raise Failed(f"with the passphrase {passphrase!r}, old and new papers {'agree' if is_same else 'differ'}")
+
+
+def start(page, lines):
+    page.evaluate(WATCH % SECRET)
+    begin(page, "change")
+    take(page, lines)
+    page.wait_title(say("change.plan"))
+
+
+def finish(page):
+    end(page)
+    if page.evaluate(SEEN):
+        raise Failed("the page showed the secret")
+
+
+def check_done(page, see, what, texts, green):
+    page.wait_title(say("change.done"))
+    for text in (*texts, say("change.same"), say("change.mixed"), say("change.thief")):
+        page.wait_text(text)
+    check_green(page, green)
+    pictures(page, see, what)
+
+
+def check_extendable(page, see):
+    """An extendable backup: too few papers, the way back, and new papers that agree with the old ones for every passphrase."""
+    old = old_papers()
+    begin(page, "change")
+    pictures(page, see, "old papers")
+    take(page, old[:1])
+    page.wait_title(say("recover.few"))
+    page.push(say("collect.more"))
+    take(page, [old[1], old[3]])
+    page.wait_title(say("change.plan"))
+    page.push(say("back"))
+    page.wait_text(say("collect.row", name="1.0", words=20))
+    page.push(say("clear"))
+    page.wait_title(say("home.title"))
+    start(page, [old[0], old[1], old[3]])
+    page.choose(say("plan.three"))
+    pictures(page, see, "the new plan")
+    page.push(say("continue"))
+    new = write(page, see, old, is_checked=True)
+    check_new(new, [old[0], old[1], old[3]], "3of5", 1, 0)
+    pictures(page, see, "what was noted")
+    answer_passphrase(page, "TREZOr", FINGERPRINT)
+    page.push(say("drill.start"))
+    page.wait_text(say("recover.other", noted=FINGERPRINT))
+    pictures(page, see, "another fingerprint")
+    answer_passphrase(page, PASSPHRASE, None)
+    # The fingerprint that was typed before stands there, so none and one are said at once.
+    page.wait_text(say("noted.both"))
+    type_again(page, "noted.label", FINGERPRINT)
+    page.push(say("continue"))
+    page.push(say("drill.start"))
+    verdict = say("verdict.all.noted", quorums=counted(10, "quorum"), fingerprint=FINGERPRINT)
+    check_done(page, see, "done", [verdict, say("change.old"), say("plan.sentence.any", needed=3, members=5)], [verdict])
+    finish(page)
+
+
+def check_bare(page, see):
+    """Without passphrase and fingerprint, old and new papers of an extendable backup are compared all the same. Nothing is green."""
+    old = old_papers()
+    for passphrase in (None, PASSPHRASE):
+        start(page, [old[3], old[4]])
+        page.push(say("continue"))
+        new = write(page, see, old)
+        check_new(new, [old[3], old[4]], "2of3", 1, 0)
+        if passphrase is None:
+            # What was typed before isn't taken.
+            answer_passphrase(page, "TREZOr", FINGERPRINT)
+            page.push(say("drill.start"))
+            page.wait_text(say("recover.other", noted=FINGERPRINT))
+            page.push(say("change.bare"))
+        else:
+            answer_passphrase(page, passphrase, None)
+        page.push(say("drill.start"))
+        verdict = say("verdict.all.own", quorums=counted(3, "quorum"), fingerprint=fingerprint_of(old[3:], passphrase or ""))
+        check_done(page, see, f"done without notes {passphrase}", [verdict, say("noted.first" if passphrase else "change.bare.noted"), say("change.old")], [])
+        finish(page)
+
+
+def check_renewed(page, see):
+    """Another backup: the passphrase and the fingerprint are asked for first, and the papers are made of the secret, with the flag if the
+    wallet knows it."""
+    old = [THREE_GROUPS[0], THREE_GROUPS[1], THREE_GROUPS[3]]
+    for wallet, noted in (("flag", FINGERPRINT), ("older", None)):
+        start(page, old)
+        page.push(say("continue"))
+        page.wait_title(say("change.wallet"))
+        page.push(say("back"))
+        page.wait_title(say("change.plan"))
+        page.push(say("continue"))
+        page.choose(say(f"wallet.{wallet}"))
+        pictures(page, see, "which wallet")
+        page.push(say("continue"))
+        page.wait_title(say("change.passphrase"))
+        page.push(say("back"))
+        page.wait_title(say("change.wallet"))
+        page.push(say("continue"))
+        page.wait_text(say("change.passphrase.why"))
+        pictures(page, see, "the passphrase")
+        answer_passphrase(page, "TREZOr" if noted else PASSPHRASE, noted)
+        if noted:
+            page.wait_text(say("recover.other", noted=FINGERPRINT))
+            page.fill(say("passphrase.label"), PASSPHRASE)
+            page.push(say("continue"))
+        new = write(page, see, old)
+        check_new(new, old, "2of3", int(wallet == "flag"), 0)
+        if not noted:
+            answer_passphrase(page, "TREZOr", None)
+            page.push(say("drill.start"))
+            page.wait_title(say("change.unproved"))
+            page.wait_text(say("change.other"))
+            check_green(page, [])
+            pictures(page, see, "another passphrase")
+            page.push(say("proof.again"))
+            page.fill(say("passphrase.label"), PASSPHRASE)
+            page.push(say("continue"))
+        else:
+            answer_passphrase(page, PASSPHRASE, noted)
+        page.push(say("drill.start"))
+        verdict = say(f"verdict.all.{'noted' if noted else 'own'}", quorums=counted(3, "quorum"), fingerprint=FINGERPRINT)
+        texts = [verdict, say("change.old.renewed"), *([] if noted else [say("change.unnoted")])]
+        check_done(page, see, f"done, not extendable, {wallet}", texts, [verdict] if noted else [])
+        finish(page)
+
+
+def check_refused(page, see):
+    """Papers that don't belong together give no new ones, and the owner goes back to them. From 'Replace', a lost paper leads here."""
+    old = old_papers()
+    wrong = changed(old[1], value=bytes(16))
+    begin(page, "replace")
+    page.choose(say("replace.other"))
+    page.push(say("continue"))
+    page.wait_text(say("replace.new.change"))
+    pictures(page, see, "a lost paper")
+    page.push(say("replace.new.change.go"))
+    take(page, [old[0], wrong, old[3]])
+    page.push(say("continue"))
+    page.wait_title(say("change.failed"))
+    page.wait_text(said(51, first=0))
+    pictures(page, see, "papers that don't belong together")
+    page.push(say("collect.back"))
+    page.wait_title(say("change.title"))
+    page.push(say("collect.drop", name="0.1"))
+    take(page, [old[1]])
+    page.push(say("continue"))
+    page.wait_title(say("change.forms"))
+    page.push(say("clear"))
+    page.wait_title(say("home.title"))
+
+
+def check_stop(page, see):
+    """What takes long tells how far it is, and stops. The papers stay."""
+    begin(page, "change")
+    take(page, [changed(line, exponent=14) for line in THREE_GROUPS[3:]])
+    page.push(say("continue"))
+    page.choose(say("wallet.flag"))
+    page.push(say("continue"))
+    answer_passphrase(page, PASSPHRASE, FINGERPRINT)
+    page.wait_title(say("make.work"))
+    check_bar(page)
+    pictures(page, see, "a long making")
+    page.push(say("stop"))
+    page.wait_text(say("change.stopped"))
+    for title in ("change.wallet", "change.plan", "change.title"):
+        page.push(say("back"))
+        page.wait_title(say(title))
+    page.wait_text(say("collect.row", name="2.0", words=20))
+    page.push(say("clear"))
+    page.wait_title(say("home.title"))
+    begin(page, "change")
+    take(page, old_papers(14)[3:])
+    page.push(say("continue"))
+    write(page, see, old_papers(14))
+    page.push(say("change.bare"))
+    page.push(say("drill.start"))
+    page.wait_title(say("change.work"))
+    check_bar(page)
+    page.push(say("stop"))
+    page.wait_title(say("change.noted"))
+    page.wait_text(say("change.stopped"))
+    page.push(say("clear"))
+    page.push(say("clear.yes"))
+    page.wait_title(say("home.title"))
+
+
+def check_identifier(page, _):
+    """If the first random bytes give the identifier of the old papers, others are drawn."""
+    for lines in (old_papers()[3:], THREE_GROUPS[3:]):
+        share = plain.parse(lines[0].encode())
+        first, second = divmod(share["id"], 256)
+        # A plan of 2of3 takes 14 random bytes.
+        page.evaluate(FOREKNOWN % f"if (it.length === 14) draws += 1; if (it.length === 14 && draws === 1) [it[0], it[1]] = [{first}, {second}];")
+        start(page, lines)
+        page.push(say("continue"))
+        if not share["extendable"]:
+            page.choose(say("wallet.older"))
+            page.push(say("continue"))
+            answer_passphrase(page, PASSPHRASE, FINGERPRINT)
+        new = write(page, lambda _: None, lines)
+        check_new(new, lines, "2of3", share["extendable"], 0)
+        if plain.parse(new[0].encode())["id"] != int.from_bytes(DRAWN[:2], "big"):
+            raise Failed("the random bytes that were to be drawn weren't")
+        page.push(say("clear"))
+        page.push(say("clear.yes"))
+        page.wait_title(say("home.title"))
+        page.call("browsingContext.reload", wait="complete")
+        page.wait_title(say("home.title"))
+
+
+CHECKS = [check_extendable, check_bare, check_renewed, check_refused, check_identifier, check_stop]

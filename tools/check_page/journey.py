@@ -1,0 +1,224 @@
+"""The steps of each task: one total that doesn't change, and one button to press next. What a plan survives, beside a count of all sets."""
+import itertools
+import json
+
+from browsers import Failed
+from refusals import paste
+from tasks import FINGERPRINT, PASSPHRASE, SOUND_PAPER, THREE_GROUPS, answer_passphrase, begin, choose_wallet, create, end, plain, read_paper
+from texts import say
+
+# Notes the title, the step and the buttons to press next of each screen, as it comes and as it changes.
+WATCH = """
+{
+  const main = document.getElementById('main');
+  window.seen = [];
+  window.watch = new MutationObserver(() => {
+    const [title, step] = ['h1', '.step'].map((it) => main.querySelector(it)?.textContent ?? '');
+    const leading = [...main.querySelectorAll('button.primary')].filter((it) => it.checkVisibility()).length;
+    window.seen.push([title, step, leading]);
+  });
+  window.watch.observe(main, { childList: true, subtree: true, attributes: true, attributeFilter: ['class'] });
+}
+null
+"""
+SEEN = "window.watch.disconnect(); JSON.stringify(window.seen)"
+
+
+def check_seen(page, task, count):
+    """Checks the screens of a task that ended: its steps begin at 1, go on by one, and end at their number."""
+    seen = [it for it in json.loads(page.evaluate(SEEN)) if it[1]]
+    crowded = [it for it in seen if it[2] > 1]
+    if crowded:
+        raise Failed(f"{task}: more than one button is to be pressed next: {crowded[:3]}")
+    steps = [it[0] for it in itertools.groupby(step for _, step, _ in seen)]
+    if steps != [say("step", at=at, count=count) for at in range(1, count + 1)]:
+        raise Failed(f"{task}: the steps are {steps}")
+
+
+def check_steps(page, see):
+    """Each task from its start to its end."""
+    for task, count, go in [("make", 7, make), ("check", 3, check), ("recover", 3, recover), ("replace", 5, replace), ("change", 6, change), ("damaged", 4, repair)]:
+        page.evaluate(WATCH)
+        begin(page, task)
+        go(page, see)
+        end(page)
+        check_seen(page, task, count)
+        if page.evaluate("Boolean(document.querySelector('.step'))"):
+            raise Failed("a step is shown without a task")
+
+
+def type_all(page, lines):
+    for line in lines:
+        share = plain.parse(line.encode())
+        paste(page, line)
+        page.wait_text(say("collect.taken", name=f"{share['group']}.{share['member']}"))
+    page.push(say("collect.end"))
+
+
+def drill(page, title):
+    """Drills with what was noted. The result is said once."""
+    page.push(say("drill.start"))
+    page.wait_title(say(title))
+    if page.text().count(FINGERPRINT) != 1:
+        raise Failed(f"the result of a drill is said {page.text().count(FINGERPRINT)} times")
+
+
+def make(page, see):
+    choose_wallet(page)
+    page.tick(say("passphrase.none"))
+    create(page)
+    papers = []
+    for number in (1, 2, 3):
+        page.wait_title(say("paper.title", name=f"0.{number - 1}"))
+        page.wait_text(say("paper.place", number=number, count=3))
+        papers.append(read_paper(page))
+        page.push(say("paper.written"))
+    page.push(say("continue"))
+    for number, line in enumerate(papers, 1):
+        page.wait_text(say("paper.place", number=number, count=3))
+        paste(page, line)
+    page.wait_title(say("noted.title"))
+    noted = page.evaluate("document.querySelector('.fingerprint').textContent")
+    page.push(say("noted.done"))
+    answer_passphrase(page, None, noted)
+    page.push(say("drill.start"))
+    page.wait_title(say("make.done"))
+    see("journey made")
+
+
+def check(page, see):
+    type_all(page, THREE_GROUPS)
+    answer_passphrase(page, PASSPHRASE, FINGERPRINT)
+    drill(page, "check.done.good")
+    see("journey checked")
+
+
+def recover(page, _):
+    type_all(page, THREE_GROUPS)
+    answer_passphrase(page, PASSPHRASE, FINGERPRINT)
+    page.wait_title(say("recover.done.same"))
+
+
+def replace(page, see):
+    page.choose(say("replace.destroyed"))
+    page.push(say("continue"))
+    type_all(page, [THREE_GROUPS[0], *THREE_GROUPS[2:]])
+    page.choose(say("which.paper", name="0.1"))
+    page.push(say("which.write"))
+    page.wait_title(say("paper.title", name="0.1"))
+    page.push(say("paper.written"))
+    page.wait_title(say("back.title", name="0.1"))
+    paste(page, THREE_GROUPS[1])
+    page.wait_title(say("replace.which"))
+    page.wait_text(say("which.another"))
+    see("journey which paper")
+    page.push(say("replace.end"))
+    answer_passphrase(page, PASSPHRASE, FINGERPRINT)
+    drill(page, "check.done.good")
+
+
+def change(page, see):
+    type_all(page, THREE_GROUPS)
+    page.push(say("continue"))
+    page.choose(say("wallet.flag"))
+    page.push(say("continue"))
+    answer_passphrase(page, PASSPHRASE, FINGERPRINT)
+    page.push(say("forms.go"))
+    papers = []
+    for number in (1, 2, 3):
+        page.wait_text(say("paper.place", number=number, count=3))
+        papers.append(read_paper(page))
+        page.push(say("paper.written"))
+    page.push(say("continue"))
+    for number, line in enumerate(papers, 1):
+        page.wait_text(say("paper.place", number=number, count=3))
+        paste(page, line)
+    answer_passphrase(page, PASSPHRASE, FINGERPRINT)
+    drill(page, "change.done")
+    see("journey changed")
+
+
+def repair(page, see):
+    paste(page, SOUND_PAPER.replace("agency", "?"))
+    page.push(say("damaged.write", name="0.0"))
+    page.wait_title(say("paper.title", name="0.0"))
+    page.push(say("paper.written"))
+    page.wait_title(say("back.title", name="0.0"))
+    paste(page, SOUND_PAPER)
+    page.wait_title(say("damaged.check.title"))
+    page.push(say("collect.end"))
+    answer_passphrase(page, PASSPHRASE, None)
+    page.push(say("drill.start"))
+    page.wait_title(say("check.done.same"))
+    see("journey repaired")
+
+
+# Plans that are offered, and some of an owner's own: how many groups are needed, and of each group how many papers it needs and has.
+OFFERED = {"two": (1, [(2, 3)]), "three": (1, [(3, 5)]), "home": (2, [(2, 3), (1, 1), (1, 1)])}
+
+
+def enough(plan, papers):
+    needed, groups = plan
+    return sum(sum(group == at for group, _ in papers) >= least for at, (least, _) in enumerate(groups)) >= needed
+
+
+def survived(plan):
+    """Returns how many papers can be lost, and how many stolen, whichever these are: by looking at every set of papers."""
+    papers = [(group, member) for group, (_, count) in enumerate(plan[1]) for member in range(count)]
+    sets = [frozenset(it) for size in range(len(papers) + 1) for it in itertools.combinations(papers, size)]
+    lost = min(len(it) for it in sets if not enough(plan, set(papers) - it)) - 1
+    stolen = min(len(it) for it in sets if enough(plan, it)) - 1
+    return lost, stolen
+
+
+def check_picture(page, what, plan):
+    lost, stolen = survived(plan)
+    wanted = []
+    for kind, count in [("lost.safe", lost), ("lost.risk", lost + 1), ("stolen.safe", stolen), ("stolen.risk", stolen + 1)]:
+        wanted += [say(f"{kind}.{'one' if count == 1 else 'many'}", n=count)] if count else []
+    found = json.loads(page.evaluate("JSON.stringify([...document.querySelectorAll('.survives li > span')].map((it) => it.textContent))"))
+    if found != wanted:
+        raise Failed(f"the plan {what} survives {wanted}, and the page says {found}")
+    drawn = json.loads(page.evaluate("JSON.stringify([...document.querySelectorAll('.survives .cards')].map((row) => [...row.querySelectorAll('.card')].map((it) => [it.textContent, it.classList.contains('lost') || it.classList.contains('stolen')])))"))
+    for text, row in zip(found, drawn, strict=True):
+        marked = {tuple(map(int, name.split("."))) for name, is_marked in row if is_marked}
+        left = {tuple(map(int, name.split("."))) for name, is_marked in row if not is_marked}
+        is_loss, is_safe = "lost" in text, "may" not in text
+        if enough(plan, left if is_loss else marked) != (is_safe if is_loss else not is_safe):
+            raise Failed(f"the plan {what}: the cards {row} don't show that {text!r}")
+
+
+def check_plans(page, see):
+    """What each offered plan and some others survive, beside a count of all sets of their papers."""
+    begin(page, "make")
+    for key, plan in OFFERED.items():
+        page.choose(say(f"plan.{key}"))
+        check_picture(page, key, plan)
+        see(f"what the plan {key} survives")
+    page.choose(say("plan.own"))
+    needed, groups = OFFERED["home"]
+    # What is pressed, and the plan then.
+    for button, plan in [
+        (f"{say('plan.more')}: {say('plan.groups_needed')}", (3, groups)),
+        (f"{say('plan.more')}: {say('plan.members', group=0)}", (3, [(2, 4), *groups[1:]])),
+        (f"{say('plan.more')}: {say('plan.members', group=1)}", (3, [(2, 4), (1, 2), (1, 1)])),
+        (f"{say('plan.more')}: {say('plan.needed', group=1)}", (3, [(2, 4), (2, 2), (1, 1)])),
+        (f"{say('plan.fewer')}: {say('plan.groups_needed')}", (2, [(2, 4), (2, 2), (1, 1)])),
+        (f"{say('plan.fewer')}: {say('plan.groups_needed')}", (1, [(2, 4), (2, 2), (1, 1)])),
+    ]:
+        page.push(button)
+        check_picture(page, button, plan)
+    see("what a plan of one's own survives")
+    page.push(say("clear"))
+    page.wait_title(say("home.title"))
+    begin(page, "check")
+    for line, cards in [(THREE_GROUPS[0], "0.0 missing"), (THREE_GROUPS[1], "0.0 0.1 enough"), (THREE_GROUPS[3], "0.0 0.1 enough 1.0 enough")]:
+        paste(page, line)
+        told = "[...document.querySelectorAll('.picture .card, .picture .enough')].map((it) => it.textContent).join(' ')"
+        page.wait(lambda: page.evaluate(told) == cards, f"the cards {cards!r}, and not {page.evaluate(told)!r},")
+    see("cards of papers")
+    page.push(say("clear"))
+    page.wait_title(say("home.title"))
+
+
+CHECKS = [check_steps, check_plans]

@@ -1,0 +1,87 @@
+"""What an owner takes back: a paper that was taken out, and fields that were emptied. Words that are offered, and how numbers are written."""
+from browsers import Failed
+from refusals import paste
+from tasks import SOUND_PAPER, THREE_GROUPS, begin
+from texts import counted, say
+
+WORDS = "[...document.querySelectorAll('.word:not([hidden]) input')].map((it) => it.value).join(' ')"
+SHOWN = "[...document.querySelectorAll('.ahead button')].map((it) => it.textContent).join(' ')"
+
+
+def clear(page):
+    page.push(say("clear"))
+    page.wait_title(say("home.title"))
+
+
+def check_put_back(page, see):
+    """A paper that was taken out can be put back, until another is typed or taken out."""
+    begin(page, "check")
+    for line, name in zip(THREE_GROUPS[:2], ("0.0", "0.1")):
+        paste(page, line)
+        page.wait_text(say("collect.taken", name=name))
+    for name in ("0.1", "0.0"):
+        page.push(say("collect.drop", name=name))
+        page.wait_text(say("collect.dropped", name=name))
+        page.wait_text(say("status.not_enough", needed=counted(2, "whole"), here=0))
+        see("a paper that was taken out")
+        page.push(say("collect.undo", name=name))
+        page.wait_text(say("collect.undone", name=name))
+        page.wait_text(say("status.not_enough", needed=counted(2, "whole"), here=1))
+        if say("collect.undo", name=name) in page.text():
+            raise Failed("a paper that is back can be put back again")
+    for name in ("0.1", "0.0"):
+        page.push(say("collect.drop", name=name))
+        page.wait_text(say("collect.dropped", name=name))
+    if say("collect.undo", name="0.1") in page.text():
+        raise Failed("the paper that was taken out before the last one can be put back")
+    paste(page, THREE_GROUPS[3])
+    page.wait_text(say("collect.taken", name="1.0"))
+    if say("collect.undo", name="0.0") in page.text():
+        raise Failed("a paper can be put back beside one that was typed later")
+    clear(page)
+
+
+def check_emptied(page, see):
+    """Words that were emptied come back, until something else is typed."""
+    typed = " ".join(SOUND_PAPER.split()[:7])
+    for task in ("check", "damaged"):
+        begin(page, task)
+        if say("entry.undo") in page.text():
+            raise Failed("words can be brought back before any were emptied")
+        page.type(typed + " ")
+        page.wait(lambda: page.evaluate(WORDS).strip() == typed, "the words that were typed")
+        page.push(say("entry.empty"))
+        page.wait(lambda: page.evaluate(WORDS).strip() == "", "the end of the words")
+        see(f"fields that were emptied, {task}")
+        page.push(say("entry.undo"))
+        page.wait(lambda: page.evaluate(WORDS).strip() == typed, "the words that were emptied")
+        page.push(say("entry.empty"))
+        page.go_to("textbox", say("entry.word", number=1))
+        page.type("acid ")
+        if say("entry.undo") in page.text() or page.evaluate(WORDS).strip() != "acid":
+            raise Failed("words that were emptied can be brought back over others")
+        clear(page)
+
+
+def check_offered(page, see):
+    """While a word is typed, the words that begin so are offered, if they are few. A word that is none is told with those that are near."""
+    begin(page, "check")
+    page.go_to("textbox", say("entry.word", number=1))
+    page.type("su")
+    if page.evaluate(SHOWN):
+        raise Failed(f"too many words are offered: {page.evaluate(SHOWN)}")
+    page.type("b")
+    page.wait(lambda: page.evaluate(SHOWN) == "subject submit", "the words that begin so")
+    see("words that begin so")
+    page.evaluate("document.querySelectorAll('.ahead button')[1].click(); null")
+    page.wait(lambda: page.evaluate(WORDS).split() == ["submit"], "the word that was chosen")
+    if not page.has_focus(page.node("textbox", say("entry.word", number=2))) or page.evaluate(SHOWN):
+        raise Failed("after a word was chosen, the focus isn't in the next field, or words are still offered")
+    page.type("acdemic ")
+    page.wait_text(say("entry.unknown", number=2))
+    told = "document.getElementById('live').textContent"
+    page.wait(lambda: page.evaluate(told).startswith(say("entry.unknown", number=2)) and "academic" in page.evaluate(told), "the words that are near, in what a screen reader says")
+    clear(page)
+
+
+CHECKS = [check_put_back, check_emptied, check_offered]

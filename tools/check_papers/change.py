@@ -1,0 +1,219 @@
+"""The task 'change': old papers with and without the extendable flag, what is refused, the ways back, and how it ends."""
+from hands import END, Failed, say
+from refusals import changed, end_by_keys, started
+from slips import sure, type_damaged
+from tasks import PASSPHRASE, SIGN, SOUND_PAPER, THREE_GROUPS, change, expect_same, fingerprint_of, name_of, paper_prompt, secret_of
+
+import plain
+
+AGAIN = say("make.failed.again")
+
+
+def backup(plan, is_extendable, exponent=0):
+    """Returns the papers of a backup with the passphrase, by the plain reading, and the fingerprint of its secret."""
+    plan = plain.parse_plan(plan)
+    random = bytes(at * 3 % 256 for at in range(plain.random_needed(plan, 16)))
+    papers = [plain.mnemonic(share) for share in plain.create(plan, bytes(range(16)), PASSPHRASE.encode(), exponent, is_extendable, random)]
+    return papers, fingerprint_of(papers, PASSPHRASE)
+
+
+def silent(owner, text):
+    if text in owner.emulator.all_seen():
+        raise Failed(f"this is shown, and shouldn't be: {text!r}")
+
+
+def check_flagless():
+    """Without the flag, the new papers are made with the passphrase that gives the noted fingerprint. They have the old exponent."""
+    old, noted = backup("3of5", False, 2)
+    for wallet, flag in [("1", 1), ("2", 0), ("3", 0)]:
+        with started("change") as owner:
+            owner.collect(old[1:4])
+            if wallet == "1":
+                owner.passphrase("TREZER", noted)
+                owner.wait(say("next.again"))
+                owner.expect(say("change.passphrase.why"))
+                owner.expect(f"{say('recover.other', noted=noted)} {fingerprint_of(old, 'TREZER')}")
+                owner.answer(say("next.again"), "t")
+            owner.passphrase(PASSPHRASE, noted)
+            new = change(owner, "2of3", wallet)
+            if wallet == "1":
+                # What was typed again isn't the passphrase of the new papers.
+                owner.passphrase("TREZER", "")
+                owner.wait(AGAIN)
+                owner.expect(say("change.other"))
+                owner.expect(say("change.unproved"))
+                silent(owner, say("change.done"))
+                owner.answer(AGAIN, "t")
+            owner.passphrase(PASSPHRASE, noted)
+            owner.wait(say("screen.end"))
+            for key in ("change.same", "change.old.renewed", "change.restore"):
+                owner.expect(say(key))
+            silent(owner, say("change.unnoted"))
+            owner.answer(say("screen.end"), "e")
+            owner.end(0)
+            expect_same(owner, old, new[1:], [PASSPHRASE])
+            if plain.parse(new[0].encode())["extendable"] != flag:
+                raise Failed(f"with the answer {wallet}, the new papers have another flag than {flag}")
+            if secret_of(old, "another") == secret_of(new, "another"):
+                raise Failed("without the flag, another passphrase gives the same wallet")
+
+
+def check_unnoted():
+    """Without a noted fingerprint, nothing is said to be right, and old papers without the flag aren't to be destroyed at once."""
+    for is_extendable, passphrase, key in [(True, "", "change.old"), (False, PASSPHRASE, "change.unnoted")]:
+        old, _ = backup("2of3", is_extendable)
+        with started("change") as owner:
+            owner.collect(old[:2])
+            if not is_extendable:
+                owner.passphrase(passphrase, "")
+            new = change(owner, "1of1", "" if is_extendable else "1")
+            owner.passphrase(passphrase, "")
+            owner.wait(say("screen.end"))
+            owner.expect(say("change.agree"))
+            owner.expect(say(key))
+            silent(owner, "[ok]")
+            owner.answer(say("screen.end"), "e")
+            owner.end(0)
+            expect_same(owner, old, new, [PASSPHRASE, "", "another"] if is_extendable else [PASSPHRASE])
+    with started("change") as owner:
+        type_damaged(owner, 1, THREE_GROUPS[3])
+        owner.type_paper(paper_prompt(2), THREE_GROUPS[4])
+        owner.answer(paper_prompt(3), "")
+        owner.passphrase(PASSPHRASE, "")
+        change(owner, "1of1", "1")
+        owner.passphrase(PASSPHRASE, "")
+        owner.wait(say("screen.end"))
+        owner.expect(say("change.repaired"))
+        end_by_keys(owner)
+
+
+def check_refused():
+    """Old papers that don't belong together give no new ones. A sound paper of another backup isn't taken, and too few are told."""
+    old, noted = backup("3of5", True)
+    value = plain.parse(old[1].encode())["value"]
+    with started("change") as owner:
+        owner.type_paper(paper_prompt(1), old[0])
+        owner.type_paper(paper_prompt(2), SOUND_PAPER)
+        owner.wait(paper_prompt(2))
+        owner.expect(say("refused.21"))
+        owner.answer(paper_prompt(2), "")
+        owner.wait(say("more.papers"))
+        owner.expect(say("recover.too_few"))
+        owner.answer(say("more.papers"), "")
+        owner.type_paper(paper_prompt(2), changed(old[1], value=value[::-1]))
+        owner.type_paper(paper_prompt(3), old[2])
+        owner.answer(paper_prompt(4), "")
+        owner.answer(say("new.plan.choose"), "2of3")
+        owner.wait(say("next.good"))
+        owner.expect(say("change.failed"))
+        owner.expect(say("refused.51", first=0))
+        silent(owner, say("new.write"))
+        owner.answer(say("next.good"), "p")
+        owner.answer(paper_prompt(4), f"{SIGN}0.1")
+        owner.type_paper(paper_prompt(3), old[1])
+        owner.answer(paper_prompt(4), "")
+        change(owner, "2of3")
+        # A fingerprint that the old papers don't give shows no agreement.
+        owner.passphrase(PASSPHRASE, "01234567")
+        owner.wait(AGAIN)
+        owner.expect(say("verdict.other", quorums="1 quorum", noted="01234567"))
+        silent(owner, say("change.done"))
+        owner.answer(AGAIN, "t")
+        owner.passphrase(PASSPHRASE, noted)
+        owner.wait(say("screen.end"))
+        end_by_keys(owner)
+
+
+def check_ways():
+    """An Enter too many and ways back lose nothing. Until old and new papers agree, whoever ends is told to keep the old ones."""
+    old, noted = backup("2of3", False)
+    plan, wallet, ask = say("new.plan.choose"), say("new.wallet"), say("passphrase.ask")
+    with started("change") as owner:
+        owner.answer(paper_prompt(1), "")
+        owner.collect(old[:2])
+        owner.answer(ask, "b")
+        owner.answer(f"{say('passphrase.back')} {say('screen.yes.back')}", "b")
+        owner.answer(paper_prompt(3), "")
+        owner.passphrase(PASSPHRASE, noted)
+        owner.answer(plan, "")
+        owner.answer(plan, "b")
+        owner.passphrase(PASSPHRASE, noted)
+        owner.answer(plan, "1")
+        owner.answer(wallet, "")
+        owner.answer(wallet, "b")
+        owner.answer(plan, "1of1")
+        owner.answer(say("new.plan.sure"), "")
+        owner.answer(say("new.plan.sure"), "u")
+        owner.answer(wallet, "1")
+        owner.wait(say("new.write"))
+        line = owner.words()
+        owner.type("\x04")
+        owner.wait(END)
+        owner.expect(say("end.changing"))
+        owner.answer(END, "n")
+        owner.answer(say("new.write"), "")
+        owner.answer(say("screen.next"), "")
+        owner.answer(say("back.ask", name="0.0"), line)
+        owner.answer(ask, "")
+        owner.answer(say("noted.ask"), noted)
+        owner.answer(AGAIN, "")
+        owner.answer(AGAIN, "e")
+        owner.end(0, "closed.changing")
+    old, _ = backup("2of3", True)
+    with started("change") as owner:
+        owner.collect(old[1:])
+        owner.answer(plan, "b")
+        owner.answer(paper_prompt(3), "")
+        owner.answer(plan, "2of3")
+        owner.wait(say("new.write"))
+        owner.type("\x03")
+        owner.end(130, "ended.changing")
+
+
+def check_pasted():
+    """All old papers are pasted at once, and again where new ones are typed back: then they aren't taken for new ones."""
+    old, noted = backup("2/2of3,1of1", True)
+    lines = "".join(f"{line}\n" for line in old)
+    with started("change", columns=120, rows=40) as owner:
+        owner.wait(paper_prompt(1))
+        owner.type(lines)
+        owner.answer(paper_prompt(5), "")
+        owner.answer(say("new.plan.choose"), "2 of 3")
+        new = owner.written()
+        owner.answer(say("screen.next"), "")
+        first = say("back.ask", name="0.0")
+        owner.wait(first)
+        owner.type(lines)
+        owner.wait(first)
+        owner.expect(say("paste.only", papers="4 papers"))
+        owner.expect(say("back.foreign", name="0.0", typed="0.0"))
+        for line in new:
+            owner.wait(say("back.ask", name=name_of(line)))
+            owner.type(f"{line}\n")
+        owner.passphrase(PASSPHRASE, noted)
+        owner.wait(say("screen.end"))
+        owner.expect(say("change.done"))
+        end_by_keys(owner)
+        expect_same(owner, old, new[:2], [PASSPHRASE, "another"])
+
+
+def check_lost():
+    """Whoever fears that a lost paper is in other hands goes on to new papers at once."""
+    old, _ = backup("2of3", True)
+    with started("replace") as owner:
+        owner.answer(say("replace.how"), "2")
+        owner.answer(say("replace.new.choose"), "c")
+        owner.collect(old[1:])
+        owner.answer(say("new.plan.choose"), "2of3")
+        owner.wait(say("new.write"))
+        if owner.words() == old[0]:
+            raise Failed("the lost paper is written again")
+        end_by_keys(owner)
+
+
+CHECKS = [check_flagless, check_unnoted, check_refused, check_ways, check_pasted, check_lost]
+
+
+def check(see):
+    for one in CHECKS:
+        one()

@@ -1,0 +1,158 @@
+"""Papers that are pasted at once: each is judged, and nothing is dropped without a word."""
+from hands import Failed, counted, say
+from refusals import end_by_keys, rows_of, started, word_prompt
+from slips import papers_of
+from tasks import SIGN, SOUND_PAPER, name_of, paper_prompt
+
+from shamir.papers.entry import said_count
+
+# As many papers as fit no screen.
+MANY = "16/" + ",".join(["2of3"] * 16)
+SIZES = [(80, 24), (120, 40)]
+
+
+def misspelt(line, place, word):
+    words = line.split()
+    return " ".join([*words[: place - 1], word, *words[place:]])
+
+
+def first(line):
+    """Returns how a paper begins, as the program names it."""
+    return " ".join(line.split()[:4])
+
+
+def named(lines):
+    return ", ".join(map(name_of, lines))
+
+
+def check_many():
+    """48 papers at once, at two sizes: all are taken, and named on one screen."""
+    papers = papers_of(MANY)
+    for columns, rows in SIZES:
+        with started("check", columns=columns, rows=rows) as owner:
+            owner.wait(paper_prompt(1))
+            owner.type("".join(f"{line}\n" for line in papers))
+            owner.wait(paper_prompt(49))
+            owner.expect(say("paste.taken", names=named(papers)))
+            owner.expect(say("status.enough"))
+            end_by_keys(owner)
+
+
+def check_misspelt():
+    """The first of 48 papers is misspelt, one is of another backup, and one lacks a word: the others are taken, and the owner mends those two."""
+    papers = papers_of(MANY)
+    wrong, short = misspelt(papers[0], 5, "acdemic"), " ".join(papers[7].split()[:-1])
+    with started("check") as owner:
+        owner.wait(paper_prompt(1))
+        owner.type("".join(f"{line}\n" for line in [wrong, *papers[1:7], short, SOUND_PAPER, *papers[8:]]))
+        owner.answer(say("paste.mend"), "")
+        owner.expect(say("paste.taken", names=named([*papers[1:7], *papers[8:]])))
+        for line, why in [(wrong, "Word 5, acdemic, isn't in the word list (academic"), (short, said_count(19, 20)), (SOUND_PAPER, say("refused.21"))]:
+            owner.expect(f"Not taken: the pasted paper that begins with '{first(line)}'. {why}")
+        owner.answer(word_prompt(5), papers[0].split()[4])
+        owner.answer(say("entry.on", typed=said_count(19, 20), number=20, sign=SIGN), papers[7].split()[-1])
+        owner.wait(paper_prompt(49))
+        owner.expect(say("paste.now", begin=first(short)))
+        owner.expect(say("collect.taken", name="0.0"))
+        owner.expect(say("collect.taken", name=name_of(papers[7])))
+        end_by_keys(owner)
+
+
+def check_rows():
+    """Papers in several lines: with headings, with numbers, and neither; the last line has no end. A title is no paper."""
+    papers = papers_of("3of5")
+    rows = [rows_of(line) for line in papers]
+    plain_rows = [[" ".join(line.split()[at : at + 6]) for at in range(0, 20, 6)] for line in papers]
+    headed = [["SLIP-0039", f"Paper {name_of(line)}", "", *of] for line, of in zip(papers, rows)]
+    for blocks in (rows, headed, plain_rows, [[*of, ""] for of in plain_rows]):
+        with started("check") as owner:
+            owner.wait(paper_prompt(1))
+            owner.type("\n".join("\n".join(block) for block in blocks))
+            while owner.pull(0.5):
+                pass
+            owner.type("\n")
+            owner.wait(paper_prompt(6))
+            owner.expect(say("paste.taken", names=named(papers)))
+            end_by_keys(owner)
+    with started("check") as owner:
+        owner.wait(paper_prompt(1))
+        owner.type("\n".join(["Our wallet", *papers[:2], "keep them apart", papers[2]]) + "\n")
+        owner.wait(paper_prompt(4))
+        owner.expect(say("paste.taken", names=named(papers[:3])))
+        owner.expect("Not taken: the pasted paper that begins with 'our wallet'.")
+        end_by_keys(owner)
+
+
+def check_elsewhere():
+    """Papers that are pasted where more are asked for, and where only one is."""
+    papers = papers_of("3of5")
+    lines = "".join(f"{line}\n" for line in papers[1:])
+    with started("check") as owner:
+        owner.collect(papers[:1])
+        owner.wait(say("more.papers"))
+        owner.type(lines)
+        owner.wait(paper_prompt(6))
+        owner.expect(say("paste.taken", names=named(papers[1:])))
+        end_by_keys(owner)
+    with started("repair") as owner:
+        owner.wait(say("damaged.ask"))
+        owner.type(lines)
+        owner.wait(say("damaged.menu"))
+        owner.expect(say("paste.only", papers=counted(4, "paper")))
+        owner.expect(say("damaged.one", name="0.1"))
+        end_by_keys(owner)
+
+
+def check_dropped():
+    """What is typed before a question is seen answers nothing, and the program says so. An Enter isn't told."""
+    papers = papers_of("2of3")
+    for early, is_told in [("perhaps\n", True), ("\n\n", False)]:
+        with started("check") as owner:
+            owner.answer(paper_prompt(1), misspelt(papers[0], 5, "acdemic"))
+            owner.wait(word_prompt(5))
+            owner.forget()
+            owner.type(f"acdmic\n{early}")
+            owner.expect("Word 5, acdmic, isn't in the word list")
+            owner.wait(word_prompt(5))
+            if (say("screen.dropped") in owner.emulator.all_seen()) != is_told:
+                raise Failed(f"{early!r} before a question: told is {not is_told}")
+            end_by_keys(owner)
+
+
+def check_back():
+    """All papers are pasted where the first one is typed back: only that is taken, and the next screen says so too."""
+    with started("new", "2of3") as owner:
+        owner.settle()
+        owner.answer(say("new.secret"), "")
+        owner.answer(say("new.passphrase"), "")
+        owner.answer(f"{say('new.passphrase.none')} {say('screen.yes.back')}", "y")
+        papers = owner.written()
+        owner.answer(say("screen.next"), "")
+        owner.wait(say("back.ask", name="0.0"))
+        owner.type("".join(f"{line}\n" for line in papers))
+        owner.wait(say("back.ask", name="0.1"))
+        if say("paste.only", papers="3 papers") not in " ".join(owner.screen().replace("[!]", "").split()):
+            raise Failed(f"the screen doesn't say that two pasted papers aren't taken: {owner.screen()}")
+        end_by_keys(owner)
+
+
+def check_cut():
+    """More is pasted than all papers of a backup have: what comes after that isn't taken, and the program says so."""
+    with started("check") as owner:
+        owner.wait(paper_prompt(1))
+        text = "acid " * 15 + "\n"
+        for _ in range(900):
+            owner.type(text)
+            owner.pull(0)
+        owner.expect(say("paste.cut", end="acid acid"))
+        owner.type("\n")
+        owner.expect("words are too many")
+        end_by_keys(owner)
+
+
+CHECKS = [check_many, check_misspelt, check_rows, check_elsewhere, check_dropped, check_back, check_cut]
+
+
+def check(see):
+    for one in CHECKS:
+        one()

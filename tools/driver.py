@@ -1,0 +1,47 @@
+"""Calls of the library as lines that tools/check_portable/driver.c reads, and what it answers."""
+import pathlib
+import subprocess
+from typing import List, Optional, Sequence, Union
+
+ROOT = pathlib.Path(__file__).resolve().parent.parent
+SOURCE = ROOT / "tools" / "check_portable" / "driver.c"
+STRICT = ["-std=c99", "-Wall", "-Wextra", "-Wconversion", "-Werror"]
+
+# Bytes or a text, a number, or NULL.
+Argument = Union[bytes, str, int, None]
+
+
+class Failed(Exception):
+    """What is wrong, such as a program that ends with another status than 0."""
+
+
+class Secret(bytes):
+    """Bytes that are undefined for memcheck."""
+
+
+def word_of(argument: Argument) -> str:
+    if argument is None or isinstance(argument, int):
+        return "-" if argument is None else str(argument)
+    kind = "X" if isinstance(argument, Secret) else "x"
+    return kind + (argument.encode() if isinstance(argument, str) else argument).hex()
+
+
+def line(call: str, arguments: Sequence[Argument], room: Optional[int]) -> str:
+    """Returns the line of a call with room for this many bytes of output, or with NULL for it."""
+    return " ".join([call, *map(word_of, arguments), word_of(room)])
+
+
+def built(program: str, compiler: Sequence[str], *words: str) -> str:
+    """Compiles the program with a library, which is among the words, and returns its path."""
+    done = subprocess.run([*compiler, *STRICT, str(SOURCE), *words, "-o", program], capture_output=True, text=True)
+    if done.returncode:
+        raise Failed(f"driver.c can't be built: {done.stderr}")
+    return program
+
+
+def answers(program: Sequence[str], lines: Sequence[str], *how: str) -> List[str]:
+    """Makes calls with the program, whose words may begin with those of an emulator. Returns the lines that it writes."""
+    done = subprocess.run([*program, *how], input="".join(it + "\n" for it in lines), capture_output=True, text=True)
+    if done.returncode:
+        raise Failed(f"{' '.join([*program, *how])} ends with status {done.returncode}: {done.stderr}")
+    return done.stdout.splitlines()

@@ -1,0 +1,458 @@
+"""Worked examples of each call of the library, with values from outside: published vectors, and what other programs computed.
+
+tools/check_portable/driver.c makes the calls. Each example is also made with an output that is one byte too short, and with NULL in
+its place. For each answer, shamir_text gives its text, and so does the text's own call with such outputs.
+"""
+import importlib
+import re
+from dataclasses import dataclass
+from typing import Any, Iterator, List, Optional, Sequence, Tuple, Union
+
+import driver
+plain: Any = importlib.import_module("plain")
+
+ROOM = 1024
+MARK = 0xA5
+NO_SHARE = (MARK << 8 | MARK, *[MARK] * 7)
+DIGITS, FINGERPRINTS, EXPECTED = range(3)
+OF_GROUPS = 16
+TOO_SHORT = 1
+
+KEY = "TREZOR"
+SECRET = bytes.fromhex("bb54aac4b89dc868ba37d9cc21b2cece")
+TWO_SECRET = bytes.fromhex("b43ceb7e57a0ea8766221624d01b0864")
+# The first vector gives this secret with the empty passphrase.
+OTHER_SECRET = bytes.fromhex("3972a9318cf16a33ee9b0564c5a0bd0b")
+ONE_RANDOM = bytes.fromhex("1f09")
+TWO_RANDOM = bytes.fromhex("64359164e7a006aadd75179d6d5c")
+FIVE_PLAN = "2/2of3,1of1,1of1"
+FIVE_RANDOM = bytes(range(26))
+
+# The first vector, and the same mnemonic with a wrong last word, so that its checksum is wrong.
+REST = "result length solution fridge kidney coal piece deal husband erode duke ajar critical decision "
+ONE = "duckling enlarge academic academic agency " + REST + "keyboard"
+ONE_WRONG = "duckling enlarge academic academic agency " + REST + "kidney"
+# A vector whose extendable flag is set.
+EXTENDABLE = "testify swimming academic academic column loyalty smear include exotic bedroom exotic wrist lobe cover grief golden smart junior estimate learn"
+# Members 0 and 2 are a vector of two mnemonics, both of which are needed. Another program computed member 1.
+TWO_0 = "shadow pistol academic acid actress prayer class unknown daughter sweater depict flip twice unkind craft early superior advocate guest smoking"
+TWO_1 = "shadow pistol academic agency acid license obtain preach firefly permit flavor library learn tension flea unusual nylon terminal exercise become"
+TWO_2 = "shadow pistol academic always adequate wildlife fancy gross oasis cylinder mustang wrist rescue view short owner flip making coding armed"
+# Another program created this backup of the first vector's secret, from the plan and the random bytes above.
+FIVE_0 = "academic aluminum acrobat leaf buyer drink heat negative damage union purchase photo inmate training amazing yield bucket wrote mule cluster"
+FIVE_1 = "academic aluminum acrobat lily august piece column laser headset unusual blimp nuclear sweater criminal credit eyebrow trouble silent axis skin"
+FIVE_2 = "academic aluminum acrobat lungs dive behavior mobile ting perfect ultimate weapon join paper involve clinic acrobat jerky preach gross usual"
+FIVE_3 = "academic aluminum beard leader chest elite grant group club deploy increase divorce puny cylinder romp frequent crush ruler erode bucket"
+FIVE_4 = (
+    "academic aluminum ceramic leader cylinder decorate mobile devote echo finger program firm starting dwarf grumpy harvest enforce raisin sprinkle phantom"
+)
+FIVE = [FIVE_0, FIVE_1, FIVE_2, FIVE_3, FIVE_4]
+# Member 3 of group 0, by a plan that gives this group four members.
+FIVE_LARGER_PLAN = "2/2of4,1of1,1of1"
+FIVE_0_3 = "academic aluminum acrobat marathon crisis luxury step activity teammate unfair fumes endorse always ranked alto problem mailman ounce teacher bumpy"
+# Members 0 and 2 are a vector of two extendable mnemonics, with the identifier 0x236a. Another program computed the second with another
+# first byte of its value, and the new backups: by the plan 1of1 with the random bytes 0x12 and 0x34, and by FIVE_PLAN.
+OLD_0 = "enemy favorite academic acid cowboy phrase havoc level response walnut budget painting inside trash adjust froth kitchen learn tidy punish"
+OLD_2 = "enemy favorite academic always academic sniff script carpet romp kind promise scatter center unfair training emphasis evening belong fake enforce"
+OLD_FORGED_2 = "enemy favorite academic always acid sniff script carpet romp kind promise scatter center unfair training emphasis evening crisis gasoline making"
+NEW_ONE = "cleanup pecan academic academic broken exact editor public best party forecast darkness burning yelp window mama warmth market laundry response"
+NEW_FIVE = [
+    "academic apart acrobat leaf diploma profile wireless fluff owner greatest romp tricycle window alarm disease mason argue junior briefing squeeze",
+    "academic apart acrobat lily campus welcome capture military elegant fiction beaver duration manual remember decision umbrella true evidence huge sharp",
+    "academic apart acrobat lungs clay airport debut stilt together alpha glance element fangs glimpse crowd exclude lunar axle spend diagnose",
+    "academic apart beard leader crowd envelope aquatic reject sister loyalty sunlight replace health frequent level crazy bundle document ticket birthday",
+    "academic apart ceramic leader alien hamster grasp strike jacket install artwork sidewalk sack fridge venture security method hairy ruin universe",
+]
+# Members 0 and 2 of group 0, with the first bytes of their values exchanged.
+FORGED_0 = "academic aluminum acrobat leaf civil drink heat negative damage union purchase photo inmate training amazing yield bucket lend glance junk"
+FORGED_2 = "academic aluminum acrobat lungs alcohol behavior mobile ting perfect ultimate weapon join paper involve clinic acrobat jerky pencil username device"
+# Member 0 of group 1, with another first byte.
+FORGED_3 = "academic aluminum beard leader campus elite grant group club deploy increase divorce puny cylinder romp frequent crush reward rich email"
+# Two members of a group, and one member of each of two groups. Another program made them, with digests that don't match.
+UNEVEN_0 = "academic academic academic acid disease prepare husky home result arcade lunar cover shame email oven tension nylon carpet prospect hand"
+UNEVEN_1 = "academic academic academic agency dragon mineral broken simple lips custody flame cylinder ending prune party scout beaver enlarge glasses bundle"
+UNEVEN_GROUP_0 = "academic academic acrobat easy disease prepare husky home result arcade lunar cover shame email oven tension nylon lawsuit smear antenna"
+UNEVEN_GROUP_1 = "academic academic beard easy dragon mineral broken simple lips custody flame cylinder ending prune party scout beaver presence thank adapt"
+# The first two with the exponent 1.
+SLOW_UNEVEN_0 = "academic acid academic acid disease prepare husky home result arcade lunar cover shame email oven tension nylon graduate hobo ivory"
+SLOW_UNEVEN_1 = "academic acid academic agency dragon mineral broken simple lips custody flame cylinder ending prune party scout beaver deploy rhythm ancient"
+
+
+@dataclass(frozen=True)
+class Answer:
+    """The fields of an answer except `mismatches` and `written`, and its text."""
+
+    code: int
+    told: str
+    line: int = 0
+    first: int = 0
+    second: int = 0
+
+
+def done(first: int, second: int) -> Answer:
+    return Answer(0, "done", first=first, second=second)
+
+
+DONE = done(0, 0)
+# The vector of two mnemonics has the exponent 2.
+HIGH = Answer(3, "exponent 2 above the maximum", first=2)
+
+Row = Tuple[Any, ...]
+# None stands for NULL with the length 0, and so do no lines.
+PARSED: List[Row] = [
+    (ONE, DONE, "11bc609d21747c49ba78c0701293e417", (7945, 0, 0, 0, 1, 1, 0, 1)),
+    (TWO_0, DONE, "06ab48fef4bedc8ce58baeef0a73f76e", (25653, 0, 2, 0, 1, 1, 0, 2)),
+    (TWO_2, DONE, "08fb14b66e692e25dfe2edf53289ed62", (25653, 0, 2, 0, 1, 1, 2, 2)),
+    (EXTENDABLE, DONE, "9e8773c7313b11d3bfe219291976433b", (29019, 1, 3, 0, 1, 1, 0, 1)),
+    (FIVE_4, DONE, "b831a4c3610155ebe5675e3ed9e6a11d", (1, 0, 0, 2, 2, 3, 0, 1)),
+    (ONE_WRONG, Answer(13, "bad checksum"), "", None),
+    (ONE + "\n", Answer(11, "unknown word 20", first=20), "", None),
+    ("", Answer(12, "0 words make no share"), "", None),
+    (None, Answer(12, "0 words make no share"), "", None),
+]
+
+NUMBERS: List[Row] = [
+    ("1of1", 16, done(2, 0)),
+    ("2of3", 16, done(14, 0)),
+    (FIVE_PLAN, 16, done(26, 0)),
+    (FIVE_PLAN, 32, done(58, 0)),
+    (FIVE_PLAN, 15, Answer(42, "secret of 15 bytes", first=15)),
+    ("2/2of2,1of2", 15, Answer(34, "one of many in plan group 1", first=1)),
+    # The groups are judged one after the other. Group 1 alone would be refused with 33.
+    ("2/1of3,5of2", 16, Answer(34, "one of many in plan group 0")),
+    ("2/3of3,5of2", 16, Answer(33, "bad number of members in plan group 1", first=1)),
+    (None, 15, Answer(31, "bad plan")),
+]
+
+CREATED: List[Row] = [
+    ("1of1", SECRET, KEY, 0, ONE_RANDOM, done(1, 0), [ONE]),
+    ("2of3", TWO_SECRET, KEY, 2, TWO_RANDOM, done(3, 0), [TWO_0, TWO_1, TWO_2]),
+    (FIVE_PLAN, SECRET, KEY, 0, FIVE_RANDOM, done(5, 0), FIVE),
+    ("1of1", OTHER_SECRET, None, 0, ONE_RANDOM, done(1, 0), [ONE]),
+    (None, None, "a\x07", 16, None, Answer(2, "number out of range"), []),
+    (None, None, "a\x07", 0, None, Answer(31, "bad plan"), []),
+    (FIVE_PLAN, None, "a\x07", 0, None, Answer(41, "passphrase byte 2 not printable", first=2), []),
+    (FIVE_PLAN, None, KEY, 0, None, Answer(42, "secret of 0 bytes"), []),
+    (FIVE_PLAN, SECRET, KEY, 0, None, Answer(43, "random bytes: 26 needed", first=26), []),
+]
+
+RECOVERED: List[Row] = [
+    ([ONE], KEY, 0, None, DONE, SECRET),
+    ([TWO_2, TWO_0], KEY, 2, None, DONE, TWO_SECRET),
+    ([TWO_2, TWO_0], KEY, 1, None, HIGH, ""),
+    ([TWO_2, TWO_0], "a\x07", 0, None, Answer(41, "passphrase byte 2 not printable", first=2), ""),
+    ([SLOW_UNEVEN_0, SLOW_UNEVEN_1], None, 0, None, Answer(3, "exponent 1 above the maximum", first=1), ""),
+    ([SLOW_UNEVEN_0, SLOW_UNEVEN_1], None, 1, None, Answer(51, "digest mismatch in group 0"), ""),
+    (FIVE, KEY, 15, None, DONE, SECRET),
+    ([FIVE_3, "", "# a note", FIVE_4], KEY, 15, None, DONE, SECRET),
+    ([ONE], None, 0, None, DONE, OTHER_SECRET),
+    ([ONE_WRONG], KEY, 0, None, Answer(13, "bad checksum", line=1), ""),
+    ([FIVE_3, ONE_WRONG], KEY, 0, None, Answer(13, "bad checksum", line=2), ""),
+    ([TWO_0, ONE], KEY, 15, None, Answer(21, "other identifier", line=2), ""),
+    ([TWO_0], KEY, 0, None, Answer(30, "incomplete: 0 of 1 groups", second=1), ""),
+    ([UNEVEN_0, UNEVEN_1], None, 15, None, Answer(51, "digest mismatch in group 0"), ""),
+    ([UNEVEN_GROUP_0, UNEVEN_GROUP_1], None, 15, None, Answer(51, "digest mismatch of groups", first=OF_GROUPS), ""),
+    ([], KEY, 0, None, Answer(29, "no shares"), ""),
+    ([], "a\x07", 0, None, Answer(41, "passphrase byte 2 not printable", first=2), ""),
+    ([ONE], KEY, 0, "df41d8fe", DONE, SECRET),
+    (FIVE, KEY, 0, "DF41D8fe", DONE, SECRET),
+    ([ONE], KEY, 0, "df41d8ff", Answer(52, "other secret"), ""),
+    ([ONE], None, 0, "df41d8fe", Answer(52, "other secret"), ""),
+    ([ONE], KEY, 0, "df41d8f", Answer(44, "bad fingerprint"), ""),
+    ([ONE], KEY, 0, "df41d8fe0", Answer(44, "bad fingerprint"), ""),
+    ([], "a\x07", 0, "df41d8fg", Answer(44, "bad fingerprint"), ""),
+    ([TWO_2, TWO_0], KEY, 1, "df41d8fg", Answer(44, "bad fingerprint"), ""),
+    ([TWO_2, TWO_0], KEY, 1, "df41d8fe", HIGH, ""),
+]
+
+
+def listed(names: str) -> str:
+    """Returns the line of a quorum with the secret."""
+    return f"{names} {SECRET.hex()}\n"
+
+
+def told(names: str) -> str:
+    """Returns the line of a quorum with the fingerprint of this secret."""
+    return compared(names, "df41d8fe")
+
+
+def compared(names: str, what: str) -> str:
+    """Returns the line of a quorum that says whether its secret has the expected fingerprint."""
+    return f"{names} {what}\n"
+
+
+FIRST_PART = "".join(map(listed, ["0.0+0.1+1.0", "0.0+0.1+2.0", "0.0+0.2+1.0", "0.0+0.2+2.0"])) + "more after 0.0+0.2+2.0\n"
+LAST_PART = "".join(map(listed, ["0.1+0.2+1.0", "0.1+0.2+2.0", "1.0+2.0"])) + "end\n"
+# After the room for the output come the answer, its number of mismatches, and the output. In a listing of the five, a line of a quorum of
+# three has 45 bytes. The last line has 23 bytes, unless it is "end".
+DRILLED: List[Row] = [
+    ([ONE], KEY, 0, None, 9, DIGITS, None, 41, done(1, 37), 0, listed("0.0") + "end\n"),
+    ([TWO_0, TWO_2], KEY, 2, "", 9, DIGITS, None, 45, done(1, 41), 0, f"0.0+0.2 {TWO_SECRET.hex()}\nend\n"),
+    ([TWO_0, TWO_2], KEY, 1, "", 9, DIGITS, None, 45, HIGH, 0, ""),
+    ([TWO_0, TWO_2], "a\x07", 0, "0.1+", 0, DIGITS, None, 0, Answer(2, "number out of range"), 0, ""),
+    ([TWO_0, TWO_2], "a\x07", 0, "0.1", 1, DIGITS, None, 0, Answer(41, "passphrase byte 2 not printable", first=2), 0, ""),
+    ([TWO_0, TWO_2], KEY, 1, "0.1", 1, DIGITS, None, 0, HIGH, 0, ""),
+    ([TWO_0, TWO_2], KEY, 2, "0.1", 1, DIGITS, None, 0, Answer(62, "cursor is no quorum"), 0, ""),
+    (FIVE, KEY, 15, None, 4, DIGITS, None, 203, done(4, 180), 0, FIRST_PART),
+    (FIVE, KEY, 15, None, 9, DIGITS, None, 247, done(4, 180), 0, FIRST_PART),
+    (FIVE, KEY, 15, "0.0+0.2+2.0", 9, DIGITS, None, 135, done(3, 131), 0, LAST_PART),
+    (FIVE, KEY, 15, "0.1+0.2+2.0", 9, DIGITS, None, 45, done(1, 41), 0, listed("1.0+2.0") + "end\n"),
+    (FIVE, KEY, 15, "1.0+2.0", 1, DIGITS, None, 4, done(0, 0), 0, "end\n"),
+    ([UNEVEN_0, UNEVEN_1], None, 0, None, 1, DIGITS, None, 39, done(1, 35), 1, "0.0+0.1 digest mismatch in group 0\nend\n"),
+    ([UNEVEN_GROUP_0, UNEVEN_GROUP_1], "", 0, "", 1, DIGITS, None, ROOM, done(1, 34), 1, "0.0+1.0 digest mismatch of groups\nend\n"),
+    (FIVE, KEY, 15, "0.0+0.2+2.0", 9, FINGERPRINTS, None, 65, done(3, 59), 0, told("0.1+0.2+1.0") + told("0.1+0.2+2.0") + told("1.0+2.0") + "end\n"),
+    (FIVE, KEY, 15, "0.0+0.2+2.0", 9, FINGERPRINTS, None, 64, done(1, 21), 0, told("0.1+0.2+1.0") + "more after 0.1+0.2+1.0\n"),
+    (
+        FIVE, KEY, 15, "0.0+0.2+2.0", 9, EXPECTED, "DF41d8fe", 72, done(3, 68), 0,
+        compared("0.1+0.2+1.0", "as expected") + compared("0.1+0.2+2.0", "as expected") + compared("1.0+2.0", "as expected") + "end\n",
+    ),
+    (FIVE, KEY, 15, "0.1+0.2+1.0", 1, EXPECTED, "00000000", 48, done(1, 25), 1, compared("0.1+0.2+2.0", "other secret") + "more after 0.1+0.2+2.0\n"),
+    ([UNEVEN_0, UNEVEN_1], None, 0, None, 1, EXPECTED, "00000000", 39, done(1, 35), 1, "0.0+0.1 digest mismatch in group 0\nend\n"),
+    ([], "a\x07", 0, "0.1+", 1, EXPECTED, "0", ROOM, Answer(61, "bad cursor"), 0, ""),
+    ([], "a\x07", 0, "0.1", 1, EXPECTED, "0", ROOM, Answer(44, "bad fingerprint"), 0, ""),
+    ([], "a\x07", 0, None, 1, EXPECTED, None, ROOM, Answer(44, "bad fingerprint"), 0, ""),
+    ([], "a\x07", 0, "0.1", 1, FINGERPRINTS, "0", ROOM, Answer(41, "passphrase byte 2 not printable", first=2), 0, ""),
+    ([UNEVEN_0, UNEVEN_1], None, 0, None, 1, FINGERPRINTS, None, 39, done(1, 35), 1, "0.0+0.1 digest mismatch in group 0\nend\n"),
+    (FIVE, KEY, 15, None, 9, FINGERPRINTS, None, 43, Answer(1, "buffer too short: 44 bytes needed", first=44), 0, ""),
+    ([], "a\x07", 0, "0.1+", 1, 3, None, ROOM, Answer(2, "number out of range"), 0, ""),
+    ([], "a\x07", 0, "0.1+", 0, 2**32 - 1, None, ROOM, Answer(2, "number out of range"), 0, ""),
+    ([], "a\x07", 0, "0.1+", 1, FINGERPRINTS, None, ROOM, Answer(61, "bad cursor"), 0, ""),
+    (FIVE, KEY, 15, None, 9, DIGITS, None, 67, Answer(1, "buffer too short: 68 bytes needed", first=68), 0, ""),
+    (FIVE, KEY, 15, "0.0+0.2+2.0", 9, DIGITS, None, 0, Answer(1, "buffer too short: 68 bytes needed", first=68), 0, ""),
+    (FIVE, KEY, 15, "1.0+2.0", 9, DIGITS, None, 3, Answer(1, "buffer too short: 4 bytes needed", first=4), 0, ""),
+    ([UNEVEN_0, UNEVEN_1], None, 0, None, 9, DIGITS, None, 38, Answer(1, "buffer too short: 39 bytes needed", first=39), 0, ""),
+    ([ONE], KEY, 0, None, 9, DIGITS, None, 40, Answer(1, "buffer too short: 41 bytes needed", first=41), 0, ""),
+    ([ONE_WRONG], KEY, 0, None, 9, DIGITS, None, ROOM, Answer(13, "bad checksum", line=1), 0, ""),
+    ([], "a\x07", 0, "0.1+", 0, DIGITS, None, ROOM, Answer(2, "number out of range"), 0, ""),
+    ([], "a\x07", 0, "0.1+", 1, DIGITS, None, ROOM, Answer(61, "bad cursor"), 0, ""),
+    ([], "a\x07", 0, "0.1", 1, DIGITS, None, ROOM, Answer(41, "passphrase byte 2 not printable", first=2), 0, ""),
+    ([], None, 0, "0.1", 1, DIGITS, None, ROOM, Answer(29, "no shares"), 0, ""),
+    ([TWO_2], None, 0, "0.1", 1, DIGITS, None, ROOM, Answer(30, "incomplete: 0 of 1 groups", second=1), 0, ""),
+    (FIVE, None, 15, "0.1", 1, DIGITS, None, ROOM, Answer(62, "cursor is no quorum"), 0, ""),
+]
+
+# In the answers, first is the number of complete groups, and second is the group threshold.
+STATUSES: List[Row] = [
+    ([ONE], done(1, 1), "groups 1 of 1\ngroup 0 members 1 of 1 0.0\n"),
+    ([TWO_2], done(0, 1), "groups 0 of 1\ngroup 0 members 1 of 2 0.2\n"),
+    ([FIVE_0, FIVE_3, FIVE_0], done(1, 2), "groups 1 of 2\ngroup 0 members 1 of 2 0.0\ngroup 1 members 1 of 1 1.0\n"),
+    (FIVE, done(3, 2), "groups 3 of 2\ngroup 0 members 3 of 2 0.0+0.1+0.2\ngroup 1 members 1 of 1 1.0\ngroup 2 members 1 of 1 2.0\n"),
+    ([FIVE_3, ONE_WRONG], Answer(13, "bad checksum", line=2), ""),
+    ([TWO_0, ONE], Answer(21, "other identifier", line=2), ""),
+    ([], Answer(29, "no shares"), ""),
+]
+
+# In the answers, first is the number of quorums.
+QUORUMS: List[Row] = [
+    ([ONE], done(1, 0)),
+    ([TWO_2], done(0, 0)),
+    ([FIVE_0, FIVE_3, FIVE_0], done(0, 0)),
+    (FIVE, done(7, 0)),
+    ([FIVE_3, ONE_WRONG], Answer(13, "bad checksum", line=2)),
+    ([TWO_0, ONE], Answer(21, "other identifier", line=2)),
+    ([], Answer(29, "no shares")),
+]
+
+# For the code 66, first is 256 * group + member, and second has four counts.
+SPLIT_ANEW: List[Row] = [
+    ("1of1", [OLD_2, OLD_0], bytes.fromhex("1234"), done(1, 0), [NEW_ONE]),
+    (FIVE_PLAN, [OLD_0, OLD_2], FIVE_RANDOM, done(5, 0), NEW_FIVE),
+    ("2/2of3", ["academia"], None, Answer(32, "bad number of groups in plan"), []),
+    (FIVE_PLAN, [OLD_0, "academia"], None, Answer(11, "unknown word 1", line=2, first=1), []),
+    (FIVE_PLAN, None, None, Answer(29, "no shares"), []),
+    (FIVE_PLAN, [OLD_0], None, Answer(30, "incomplete: 0 of 1 groups", second=1), []),
+    (FIVE_PLAN, [OLD_0, OLD_FORGED_2], None, Answer(51, "digest mismatch in group 0"), []),
+    (FIVE_PLAN, [ONE], None, Answer(67, "backup isn't extendable"), []),
+    (FIVE_PLAN, [OLD_0, OLD_2], None, Answer(43, "random bytes: 26 needed", first=26), []),
+    (FIVE_PLAN, [OLD_0, OLD_2], bytes(27), Answer(43, "random bytes: 26 needed", first=26), []),
+    ("1of1", [OLD_0, OLD_2], bytes.fromhex("236a"), Answer(68, "same identifier"), []),
+    ("1of1", [OLD_0, OLD_2], bytes.fromhex("a36a"), Answer(68, "same identifier"), []),
+]
+
+REISSUED: List[Row] = [
+    (FIVE_PLAN, "0.1", [FIVE_0, FIVE_2], DONE, [FIVE_1]),
+    (FIVE_PLAN, "0.0+0.1", [FIVE_2, FIVE_3, FIVE_4], DONE, [FIVE_0, FIVE_1]),
+    (FIVE_PLAN, "2.0", [FIVE_0, FIVE_1, FIVE_3], DONE, [FIVE_4]),
+    (FIVE_PLAN, "0.0", [FIVE_0], DONE, [FIVE_0]),
+    (FIVE_LARGER_PLAN, "0.3", [FIVE_0, FIVE_1], DONE, [FIVE_0_3]),
+    (FIVE_PLAN, "0.1", [FIVE_3, FIVE_4], Answer(66, "cannot tell 0.1: 0 of 2 members, 2 of 2 other groups", first=1, second=0x00020202), []),
+    (FIVE_PLAN, "0.1", [FIVE_0, FIVE_3], Answer(66, "cannot tell 0.1: 1 of 2 members, 1 of 2 other groups", first=1, second=0x01020102), []),
+    (FIVE_PLAN, "2.0", [FIVE_0, FIVE_1], Answer(66, "cannot tell 2.0: 0 of 1 members, 1 of 2 other groups", first=512, second=0x00010102), []),
+    (FIVE_PLAN, "0.3", [FIVE_0, FIVE_1], Answer(64, "name 0.3 not in plan", second=3), []),
+    ("2/3of3,1of1,1of1", "0.2", [FIVE_0, FIVE_1], Answer(65, "other plan"), []),
+    ("1/2of3,1of1,1of1", "2.0", [FIVE_0, FIVE_3], Answer(65, "other plan"), []),
+    ("2/2of3,1of1", "0.1", [FIVE_0, FIVE_2], Answer(65, "other plan"), []),
+    ("2/2of2,1of1,1of1", "0.0", [FIVE_1, FIVE_2], Answer(65, "other plan"), []),
+    (FIVE_PLAN, "0.1+0.0", [FIVE_0, FIVE_1], Answer(63, "bad list of names"), []),
+    (FIVE_PLAN, None, [ONE_WRONG], Answer(63, "bad list of names"), []),
+    (None, "0.1+0.0", [ONE_WRONG], Answer(31, "bad plan"), []),
+    (FIVE_PLAN, "3.0", [ONE_WRONG], Answer(64, "name 3.0 not in plan", first=3), []),
+    (FIVE_PLAN, "0.0", [FIVE_0, ONE_WRONG], Answer(13, "bad checksum", line=2), []),
+    (FIVE_PLAN, "0.0", [], Answer(29, "no shares"), []),
+    (FIVE_PLAN, "0.1", [FORGED_0, FORGED_2], Answer(51, "digest mismatch in group 0"), []),
+    (FIVE_PLAN, "2.0", [FORGED_0, FORGED_2, FIVE_3], Answer(51, "digest mismatch in group 0"), []),
+    (FIVE_PLAN, "2.0", [FIVE_0, FIVE_1, FORGED_3], Answer(51, "digest mismatch of groups", first=OF_GROUPS), []),
+]
+
+# Python's hmac computed these fingerprints.
+FINGERPRINTED: List[Row] = [
+    (SECRET, DONE, "df41d8fe"),
+    (TWO_SECRET, DONE, "5f5702dc"),
+    (SECRET + b"\xff\xff", DONE, "26fdf302"),
+    (SECRET + b"\n", Answer(42, "secret of 17 bytes", first=17), ""),
+    ("", Answer(42, "secret of 0 bytes"), ""),
+    (None, Answer(42, "secret of 0 bytes"), ""),
+]
+
+# The words are those of the standard's list.
+WORDS: List[Row] = [
+    ("em", DONE, "email\nemerald\nemission\nemperor\nemphasis\nemployer\nempty\n"),
+    ("EMer", DONE, "emerald\n"),
+    ("zero", DONE, "zero\n"),
+    ("zeros", DONE, ""),
+    ("zero ", DONE, ""),
+    ("\xc3\xa9", DONE, ""),
+    ("em\n", DONE, ""),
+    ("", Answer(1, "buffer too short: 7231 bytes needed", first=7231), ""),
+    (None, Answer(1, "buffer too short: 7231 bytes needed", first=7231), ""),
+]
+
+REPAIRED: List[Row] = [
+    (ONE, done(1, 0), ONE + "\n"),
+    (
+        "duckling ? academic academic agency result length solution fridge kidney coal ? deal husband erode duke ajar critical decision keyboard",
+        done(1, 0), ONE + "\n",
+    ),
+    (
+        "Duckling enlarge academic academic agency result le? SO? fridge kidney coal piece deal husband erode duke ajar critical decision keyboard",
+        done(1, 0), ONE + "\n",
+    ),
+    ("? ? ? academic agency " + REST + "keyboard", done(2, 0), ONE + "\ntherapy heat device academic agency " + REST + "keyboard\n"),
+    ("duckling enlarge academic academic agency " + REST + "zz?", Answer(11, "unknown word 20", first=20), ""),
+    (ONE + "\n", Answer(11, "unknown word 20", first=20), ""),
+    ("duckling ?", Answer(12, "2 words make no share", first=2), ""),
+    (
+        "? enlarge ? academic ? result ? solution fridge kidney coal piece deal husband erode duke ajar critical decision keyboard",
+        Answer(19, "4 unreadable words: at most 3", first=4), "",
+    ),
+    (
+        "duckling enlarge academic academic ? result solution length fridge kidney coal piece deal husband erode duke ajar critical decision keyboard",
+        Answer(17, "no mnemonic has these words"), "",
+    ),
+    ("duckling enlarge academic academic agency " + REST + "kidney", Answer(18, "bad checksum: if one word is wrong, it is word 20", first=20), ""),
+    (
+        "duckling enlarge academic academic agency result lend solution fridge kidney coal piece deal husband erode duke ajar critical decision keyboard",
+        Answer(18, "bad checksum: if one word is wrong, it is word 7", first=7), "",
+    ),
+    (
+        "duckling enlarge academic academic agency result solution length fridge kidney coal piece deal husband erode duke ajar critical decision keyboard",
+        Answer(13, "bad checksum"), "",
+    ),
+    (None, Answer(12, "0 words make no share"), ""),
+]
+
+
+Output = Union[str, bytes, List[str]]
+# The line of a call, and the line that the driver must write.
+Made = Tuple[str, str]
+
+
+@dataclass(frozen=True)
+class Example:
+    """A call, and what it gives. Without a room, the output has just the room that it needs, or plenty if the call is refused."""
+
+    call: str
+    arguments: Sequence[Any]
+    answer: Answer
+    output: bytes = b""
+    room: Optional[int] = None
+    mismatches: int = 0
+    share: Tuple[int, ...] = NO_SHARE
+
+
+def joined(given: Any) -> Any:
+    """Returns lines as one text, with a line feed after each, and anything else as it is. A text has one byte for each character."""
+    if isinstance(given, list):
+        return joined("".join(line + "\n" for line in given)) if given else None
+    return given.encode("latin-1") if isinstance(given, str) else given
+
+
+def example(call: str, arguments: Sequence[Any], answer: Answer, output: Output = "", **more: Any) -> Example:
+    return Example(call, [joined(it) for it in arguments], answer, joined(output) or b"", **more)
+
+
+def examples() -> Iterator[Example]:
+    for text, answer, value, share in PARSED:
+        yield example("parse", [text], answer, bytes.fromhex(value), share=share or NO_SHARE)
+    for plan, size, answer in NUMBERS:
+        yield example("random_needed", [plan, size], answer, room=0)
+    for plan, secret, key, exponent, drawn, answer, lines in CREATED:
+        yield example("create", [plan, secret, key, exponent, 0, drawn], answer, lines)
+    for lines, key, most, expected, answer, output in RECOVERED:
+        yield example("recover", [lines, key, most, expected], answer, output)
+    for lines, key, most, after, limit, form, expected, room, answer, mismatches, output in DRILLED:
+        yield example("drill", [lines, key, most, after, limit, form, expected], answer, output, room=room, mismatches=mismatches)
+    for lines, answer in QUORUMS:
+        yield example("quorums", [lines], answer, room=0)
+    for plan, names, lines, answer, output in REISSUED:
+        yield example("reissue", [plan, names, lines], answer, output)
+    for plan, lines, drawn, answer, output in SPLIT_ANEW:
+        yield example("resplit", [plan, lines, drawn], answer, output)
+    for call, table in [("status", STATUSES), ("fingerprint", FINGERPRINTED), ("words", WORDS), ("repair", REPAIRED)]:
+        yield from (example(call, [given], answer, output) for given, answer, output in table)
+    yield example("version", [], DONE, version())
+    yield example("text", [5, 0, 0, 0, 0, 0], DONE, "unknown answer")
+
+
+def version() -> str:
+    header = (driver.ROOT / "include" / "shamir.h").read_text()
+    [found] = re.findall('^#define SHAMIR_VERSION "(.*)"$', header, re.MULTILINE)
+    return str(found)
+
+
+def wanted(answer: Answer, output: bytes = b"", mismatches: int = 0, share: Sequence[int] = NO_SHARE) -> str:
+    """Returns the line that the driver writes."""
+    fields = [answer.code, mismatches, answer.line, answer.first, answer.second, len(output), *share, 0]
+    return " ".join([*map(str, fields), output.hex()])
+
+
+def calls_of(it: Example) -> Iterator[Made]:
+    """Yields the calls of an example, and what is wanted."""
+    room = it.room
+    if room is None:
+        room = len(it.output) if it.answer.code == 0 else ROOM
+    yield driver.line(it.call, it.arguments, room or None), wanted(it.answer, it.output, it.mismatches, it.share)
+    if it.room is None and it.output:
+        short = wanted(Answer(TOO_SHORT, "", first=room))
+        yield driver.line(it.call, it.arguments, room - 1), short
+        yield driver.line(it.call, it.arguments, None), short
+    if it.call != "text":
+        fields = [it.answer.code, it.mismatches, it.answer.line, it.answer.first, it.answer.second, 0]
+        yield from calls_of(example("text", fields, DONE, it.answer.told))
+
+
+def flags() -> Iterator[Made]:
+    """Yields new backups. Their flag is set by any number except 0."""
+    for flag in [0, 1, 2, 255, 256, 65536, 2**32 - 1]:
+        [share] = plain.create(plain.parse_plan("1of1"), SECRET, KEY.encode(), 0, flag != 0, ONE_RANDOM)
+        output = (plain.mnemonic(share) + "\n").encode()
+        yield driver.line("create", ["1of1", SECRET, KEY, 0, flag, ONE_RANDOM], ROOM), wanted(done(1, 0), output)
+
+
+def wiped() -> Iterator[Made]:
+    """Yields buffers of which every byte is cleared, and no byte before or after it."""
+    yield driver.line("wipe", [None], None), wanted(DONE)
+    for length in range(ROOM - 1):
+        yield driver.line("wipe", [bytes([MARK]) * length], length), wanted(DONE, bytes(length))
+
+
+def calls() -> List[Made]:
+    return [call for it in examples() for call in calls_of(it)] + [*flags(), *wiped()]
+
+
+def check(program: Sequence[str], made: Sequence[Made]) -> None:
+    """Makes calls by a driver, and says which of them it answers otherwise."""
+    found = driver.answers(program, [line for line, _ in made])
+    told = [f"{line}\n  gives  {one}\n  wanted {right}" for (line, right), one in zip(made, found) if one != right]
+    if told or len(found) != len(made):
+        raise driver.Failed("\n".join([f"{len(found)} worked examples of {len(made)} are answered, {len(told)} of them otherwise", *told]))
