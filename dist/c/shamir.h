@@ -1,9 +1,9 @@
 /*
- * shamir.h: SLIP-0039 backups of a master secret, for C and C++.
+ * shamir.h: SLIP-0039 backups of a master secret, for C and C++. The manual page shamir(3) is made of these comments.
  *
  * The library creates backups, reads mnemonics, recovers secrets and runs drills. It also reports whether mnemonics are enough
- * for a recovery, computes lost mnemonics and fingerprints of secrets, finds words that can't be read, and lists words of the
- * word list. docs/LIBRARY.md introduces it with examples, and the manual page shamir(3) is a reference.
+ * for a recovery, counts quorums, computes lost mnemonics and fingerprints of secrets, splits a backup anew by another plan, finds
+ * words that can't be read, and lists words of the word list. docs/LIBRARY.md introduces it with examples.
  *
  * A backup consists of mnemonics, which are lines of words. A mnemonic spells a share, which has fields and a value: the bytes
  * that a recovery combines. shamir_parse gives both. Each mnemonic is a member of a group. Groups and members are numbered from
@@ -124,9 +124,9 @@ extern "C" {
 /*
  * The codes of an answer. A call that refuses gives the code of the first cause that applies. The command shamir uses the
  * same numbers, except 1 to 4, which only the library gives. Only the library as plain C gives 4, and it gives 4 before any other
- * code. Each comment says what the fields "first" and "second" of such a refusal are. A field that it doesn't mention is 0. Groups
- * and members are numbered from 0. A later library of the same name may give further codes, so treat any other code as a refusal
- * too.
+ * code. The text of each code says what the fields "first" and "second" of such a refusal are. A field that it doesn't mention is
+ * 0. Groups and members are numbered from 0. A later library of the same name may give further codes, so treat any other code as
+ * a refusal too.
  */
 typedef enum shamir_code {
     SHAMIR_DONE = 0,                      /* the call succeeded */
@@ -168,6 +168,8 @@ typedef enum shamir_code {
     SHAMIR_E_NOT_IN_PLAN = 64,            /* a name isn't in the plan; first: the group, second: the member */
     SHAMIR_E_OTHER_PLAN = 65,             /* a mnemonic can't belong to a backup of this plan */
     SHAMIR_E_UNDETERMINED = 66,           /* a mnemonic isn't determined; first: 256 * group + member, second: see shamir_reissue */
+    SHAMIR_E_NOT_EXTENDABLE = 67,         /* the mnemonics don't have the extendable flag, so they can't be split anew */
+    SHAMIR_E_SAME_IDENTIFIER = 68,        /* the random bytes give the identifier that the mnemonics have */
     SHAMIR_E_LINE_TOO_LONG = 71           /* a line has more than SHAMIR_LINE_BYTES_MAX bytes */
 } shamir_code;
 
@@ -176,8 +178,8 @@ typedef enum shamir_code {
  *
  * line is the number of the refused line, counted from 1, for the codes 11 to 28 and 71 of calls that take lines. Otherwise
  * it is 0. Only shamir_drill sets the field "mismatches"; in answers of other calls this field is 0. first and second are the
- * details of a refusal. After success, first is a result of shamir_random_needed, shamir_create, shamir_drill, shamir_status and
- * shamir_repair, and second of shamir_drill and shamir_status. Otherwise they are 0.
+ * details of a refusal. After success, first is a result of shamir_random_needed, shamir_create, shamir_drill, shamir_status,
+ * shamir_quorums, shamir_resplit and shamir_repair, and second of shamir_drill and shamir_status. Otherwise they are 0.
  */
 typedef struct shamir_answer {
     uint32_t code;       /* a shamir_code: SHAMIR_DONE, or the cause of the refusal */
@@ -388,6 +390,21 @@ SHAMIR_CALL
 shamir_answer shamir_status(const char *lines, size_t lines_bytes, char *text, size_t text_bytes);
 
 /*
+ * Counts the quorums among mnemonics.
+ *
+ * lines is as for shamir_recover. The call needs no passphrase, and decrypts nothing. After success, the field first of the answer
+ * is how many quorums shamir_drill lists if its cursor is empty and no limit or room stops it, or UINT64_MAX if there are more. If
+ * the mnemonics have no quorum, first is 0, and the code is still SHAMIR_DONE. The call writes nothing.
+ *
+ * The call refuses with the first of these that applies: the code of the first refused line (11 to 28, 71), 29.
+ *
+ *     shamir_answer answer = shamir_quorums(lines, lines_bytes);
+ *     uint64_t quorums = answer.first;
+ */
+SHAMIR_CALL
+shamir_answer shamir_quorums(const char *lines, size_t lines_bytes);
+
+/*
  * Computes lost mnemonics of a backup from other mnemonics of it.
  *
  * plan          the text of the plan of the backup, or of that plan with more members in some groups; the added members are new
@@ -419,6 +436,42 @@ shamir_answer shamir_status(const char *lines, size_t lines_bytes, char *text, s
 SHAMIR_CALL
 shamir_answer shamir_reissue(
     const char *plan, size_t plan_bytes, const char *names, size_t names_bytes, const char *lines, size_t lines_bytes, char *mnemonics,
+    size_t mnemonics_bytes);
+
+/*
+ * Splits the encrypted secret of an extendable backup anew, by another plan, and gives the mnemonics of this new backup.
+ *
+ * plan          the text of the plan of the new backup, as for shamir_random_needed
+ * lines         mnemonics of the old backup that are enough, as for shamir_recover
+ * random        exactly as many bytes as shamir_create takes for this plan and a secret as long as the value of a mnemonic; they
+ *               must be unpredictable, and no other backup may use them
+ * mnemonics     the output: the mnemonics of the new backup in the order of groups and members, with a line feed after each; an
+ *               output buffer of SHAMIR_MNEMONICS_BYTES_MAX bytes is always enough
+ *
+ * After success, the field first of the answer is the number of mnemonics.
+ *
+ * The call needs no passphrase, and decrypts nothing, so the exponent doesn't matter for its time. The new backup has the flag and
+ * the exponent of the old one. With each passphrase, it gives the secret that the old one gives with it. The new mnemonics are
+ * those that shamir_create gives for that secret, with this passphrase, exponent and flag, by the plan and the random bytes.
+ *
+ * The random bytes are used as shamir_create uses them, so the first two give the new identifier. If that is the old one, the call
+ * refuses with 68: draw other bytes. Otherwise mnemonics of both backups would be taken for those of one.
+ *
+ * If the number of random bytes is wrong, the call refuses with 43, and first is the number. It is at least 2. So a call without
+ * random bytes tells the number, or refuses with what comes before 43. If mnemonics is too short, the call refuses with 1, and
+ * first is the length of all mnemonics.
+ *
+ * As shamir_recover does, the call uses the first quorum, and doesn't try further mnemonics. The old mnemonics go on giving the
+ * secret until they are destroyed. If somebody may have a quorum of them, use a new secret too.
+ *
+ * The call refuses with the first of these that applies: 31 to 34, the code of the first refused line (11 to 28, 71), 29, 30, 51,
+ * 67, 43, 68, 1.
+ *
+ *     shamir_answer answer = shamir_resplit("3of5", 4, lines, lines_bytes, random, random_bytes, mnemonics, sizeof mnemonics);
+ */
+SHAMIR_CALL
+shamir_answer shamir_resplit(
+    const char *plan, size_t plan_bytes, const char *lines, size_t lines_bytes, const uint8_t *random, size_t random_bytes, char *mnemonics,
     size_t mnemonics_bytes);
 
 /*

@@ -32,6 +32,10 @@
     "academic aluminum ceramic leader cylinder decorate mobile devote echo finger program firm " \
     "starting dwarf grumpy harvest enforce raisin sprinkle phantom\n"
 
+#define ANEW \
+    "cleanup pecan academic academic broken exact editor public best party forecast darkness " \
+    "burning yelp window mama warmth market laundry response\n"
+
 /* A published vector: its mnemonics in lines, and its secret in hexadecimal digits. It has none if the mnemonics are to be refused. */
 typedef struct {
     const char *lines;
@@ -1087,6 +1091,10 @@ static void check_reading(void)
 {
     static const char four[] = FIRST SECOND FOURTH, without[] = "academic aluminum acrobat leaf buyer drink heat negative damage union "
                                                                 "purchase photo inmate training amazing yield bucket wrote mule ?";
+    static const char extendable[] = "enemy favorite academic acid cowboy phrase havoc level response walnut budget painting inside trash adjust "
+                                     "froth kitchen learn tidy punish\nenemy favorite academic always academic sniff script carpet romp kind "
+                                     "promise scatter center unfair training emphasis evening belong fake enforce\n";
+    static const uint8_t chance[] = {0x12, 0x34};
     uint8_t value[SHAMIR_SECRET_BYTES_MAX];
     shamir_share share;
     shamir_answer answer = shamir_parse(FIRST, strlen(FIRST) - 1, &share, value, sizeof value);
@@ -1096,9 +1104,12 @@ static void check_reading(void)
            share.member_index == 0 && share.member_threshold == 2);
     expect("shamir_status", wrote(shamir_status(four, strlen(four), text, sizeof text),
            "groups 2 of 2\ngroup 0 members 2 of 2 0.0+0.1\ngroup 1 members 1 of 1 1.0\n"));
+    answer = shamir_quorums(four, strlen(four));
+    expect("shamir_quorums", answer.code == SHAMIR_DONE && answer.first == 1 && answer.written == 0);
     expect("shamir_drill", wrote(shamir_drill(four, strlen(four), KEY, strlen(KEY), SHAMIR_EXPONENT_MAX, "", 0, 9, SHAMIR_FORM_DIGITS,
            "", 0, text, sizeof text), "0.0+0.1+1.0 " SECRET "\nend\n"));
     expect("shamir_reissue", wrote(shamir_reissue(PLAN, strlen(PLAN), "0.2", 3, four, strlen(four), text, sizeof text), THIRD));
+    expect("shamir_resplit", wrote(shamir_resplit("1of1", 4, extendable, strlen(extendable), chance, sizeof chance, text, sizeof text), ANEW));
     expect("shamir_repair", wrote(shamir_repair(without, strlen(without), text, sizeof text), FIRST));
     expect("shamir_words", wrote(shamir_words("em", 2, text, sizeof text), EM));
 }
