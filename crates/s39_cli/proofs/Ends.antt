@@ -14,9 +14,9 @@ use Rattle.s39_cli.specs.declared.runner.Ended.TheVariants.{With, NoMemory}
 use Rattle.s39_cli.specs.declared.runner.Source.{Source}
 use Rattle.s39_cli.specs.declared.work.Work.{Work}
 use Rattle.s39_command.specs.Command.{AnswersWords, GivesCall, shamir_app}
-use Rattle.s39_cli.specs.Ending.{AwaitsRandom, Delivers, DoesDrawn, DoesJob, EndsAtOnce, IsDoneWith, Ends, EndsAs, EndsUnread, EndsWithoutJob, HasStatus, IsTyped, OnEnd, TakesCall}
+use Rattle.s39_cli.specs.Ending.{Delivers, DoesDrawn, DoesJob, EndsAtOnce, IsDoneWith, Ends, EndsAs, EndsUnread, EndsWithoutJob, HasStatus, IsTyped, OnEnd, TakesCall}
 use Rattle.s39_cli.specs.Values.{AreDrawn, HasLong, LacksValue, TakesValues, Told, most_drawn, text_of}
-use Rattle.s39_cli.specs.Outcome.{GivesPlan, HasBadPlan}
+use Rattle.s39_cli.specs.Outcome.{HasBadPlan}
 use Rattle.s39_cli.specs.Work.{IsWorkOf, IsWorkOutput}
 use Rattle.s39_cli.proofs.Deliveries.{Delivers-map}
 use Rattle.s39_command.proofs.Jobs.{asks_none}
@@ -50,14 +50,7 @@ module _ {R W : Type 0} (told : Told) (remaining : R → Option (List ℕ)) (con
   does_with given (With status read_to written_to) is does = inr (given, is, does)
 
   module _ (plan file : Bor Text) (is : job ≡ Resplit plan file) where
-    -- a split anew with the random bytes of its file
-    pub does_drawn : (random : Text) (ended : Ended R W) → AreDrawn (told file.now) random
-        → OnEnd ended (DoesJob remaining contents job random passphrase reader writer)
-        → OnEnd ended (DoesDrawn told remaining contents job secret passphrase reader writer)
-    does_drawn random ended drawn does =
-        does_with random ended (subst (λ (j : Job). IsDoneWith told j secret random) (sym is) drawn) does
-
-    -- one whose plan is none
+    -- a split anew whose plan is none
     pub bad_plan : (error : PlanError) (ended : Ended R W) → IsPlanReading plan.now (Err error) → OnEnd ended (EndsAtOnce 1 reader writer)
         → OnEnd ended (DoesDrawn told remaining contents job secret passphrase reader writer)
     bad_plan error NoMemory refused ends = tt
@@ -68,13 +61,6 @@ module _ {R W : Type 0} (told : Told) (remaining : R → Option (List ℕ)) (con
           subst (λ (j : Job). IsDoneWith told j secret random) (sym is) drawn,
           inr (inl ((error, subst (λ (j : Job). HasBadPlan j random error) (sym is) refused), ends)),
         )
-
-    -- one whose file isn't read
-    pub unread_file : (P : Type 0) (ended : Ended R W) → GivesPlan plan.now → EndsUnread P reader writer ended
-        → OnEnd ended (λ status read_to written_to. status ≡ 3) → OnEnd ended (DoesDrawn told remaining contents job secret passphrase reader writer)
-    unread_file P NoMemory gives ends three = tt
-    unread_file P (With status read_to written_to) gives ends three =
-        inl (subst AwaitsRandom (sym is) gives, (three, ends.0, ends.1.1))
 
 module _ {R W : Type 0} (told : Told) (remaining : R → Option (List ℕ)) (contents : W → Option (List ℕ)) (source : Source) (words : List Text)
     (reader : R) (writer : W) where

@@ -201,16 +201,6 @@ module _ {E : Type 0} (contents : E → Option (List ℕ)) where
   said_unbegun j types tells (unready.Fingerprint bad) ended old new says = refused_unbegun j types tells ended old new says
   said_unbegun j types tells (unready.Names bad) ended old new says = refused_unbegun j types tells ended old new says
 
-  -- a job whose random bytes aren't read
-  pub said_undrawn : {R W : Type 0} (j : Job) (types tells : Bool) (ended : Ended R W) (old new : Messages E)
-      → OnStatus ended (λ status. 2 ≤ status) → OnEnd ended (λ status read_to written_to. status ≡ 3) → IsSaidOfJob contents j types tells old new ended
-  said_undrawn j types tells NoMemory old new other three = absurd other
-  said_undrawn j types tells (With status read_to written_to) old new other three = record {
-    done = λ none. absurd (omega (arith, none, three));
-    refused = λ one. absurd (omega (arith, one, three));
-    wrong = λ two. absurd (omega (arith, two, three));
-  }
-
   -- ---- the program
 
   by_call : (source : Source) (destination : Destination) (words : List Text) (old new : Messages E) (call : Call) → GivesCall words call
