@@ -1,7 +1,7 @@
 """Worked examples of each call of the library, with values from outside: published vectors, and what other programs computed.
 
-tools/check_portable/driver.c makes the calls. Each example is also made with an output that is one byte too short, and with NULL in
-its place. For each answer, shamir_text gives its text, and so does the text's own call with such outputs.
+tools/check_portable/driver.c makes the calls. Each example is also made with an output that is one byte longer, with one that is one byte
+too short, and with NULL in its place. For each answer, shamir_text gives its text, and so does the text's own call with such outputs.
 """
 import importlib
 import re
@@ -47,6 +47,7 @@ FIVE_4 = (
     "academic aluminum ceramic leader cylinder decorate mobile devote echo finger program firm starting dwarf grumpy harvest enforce raisin sprinkle phantom"
 )
 FIVE = [FIVE_0, FIVE_1, FIVE_2, FIVE_3, FIVE_4]
+FOUR = [FIVE_0, FIVE_1, FIVE_3, FIVE_4]
 # Member 3 of group 0, by a plan that gives this group four members.
 FIVE_LARGER_PLAN = "2/2of4,1of1,1of1"
 FIVE_0_3 = "academic aluminum acrobat marathon crisis luxury step activity teammate unfair fumes endorse always ranked alto problem mailman ounce teacher bumpy"
@@ -76,6 +77,11 @@ UNEVEN_GROUP_1 = "academic academic beard easy dragon mineral broken simple lips
 # The first two with the exponent 1.
 SLOW_UNEVEN_0 = "academic acid academic acid disease prepare husky home result arcade lunar cover shame email oven tension nylon graduate hobo ivory"
 SLOW_UNEVEN_1 = "academic acid academic agency dragon mineral broken simple lips custody flame cylinder ending prune party scout beaver deploy rhythm ancient"
+
+# The two old ones and the new one with the exponent 15.
+HIGH_OLD_0 = "enemy flavor academic acid cowboy phrase havoc level response walnut budget painting inside trash adjust froth kitchen display birthday exhaust"
+HIGH_OLD_2 = "enemy flavor academic always academic sniff script carpet romp kind promise scatter center unfair training emphasis evening practice painting regret"
+HIGH_NEW_ONE = "cleanup pile academic academic broken exact editor public best party forecast darkness burning yelp window mama warmth destroy mayor element"
 
 
 @dataclass(frozen=True)
@@ -108,6 +114,7 @@ PARSED: List[Row] = [
     (ONE_WRONG, Answer(13, "bad checksum"), "", None),
     (ONE + "\n", Answer(11, "unknown word 20", first=20), "", None),
     ("", Answer(12, "0 words make no share"), "", None),
+    ("academic academia", Answer(11, "unknown word 2", first=2), "", None),
     (None, Answer(12, "0 words make no share"), "", None),
 ]
 
@@ -117,6 +124,8 @@ NUMBERS: List[Row] = [
     (FIVE_PLAN, 16, done(26, 0)),
     (FIVE_PLAN, 32, done(58, 0)),
     (FIVE_PLAN, 15, Answer(42, "secret of 15 bytes", first=15)),
+    (FIVE_PLAN, 17, Answer(42, "secret of 17 bytes", first=17)),
+    ("1of1,1of3", 16, Answer(31, "bad plan")),
     ("2/2of2,1of2", 15, Answer(34, "one of many in plan group 1", first=1)),
     # The groups are judged one after the other. Group 1 alone would be refused with 33.
     ("2/1of3,5of2", 16, Answer(34, "one of many in plan group 0")),
@@ -134,12 +143,20 @@ CREATED: List[Row] = [
     (FIVE_PLAN, None, "a\x07", 0, None, Answer(41, "passphrase byte 2 not printable", first=2), []),
     (FIVE_PLAN, None, KEY, 0, None, Answer(42, "secret of 0 bytes"), []),
     (FIVE_PLAN, SECRET, KEY, 0, None, Answer(43, "random bytes: 26 needed", first=26), []),
+    ("0of0", None, "a\x07", 16, None, Answer(2, "number out of range"), []),
+    ("2/1of3,5of2", None, "a\x07", 15, None, Answer(34, "one of many in plan group 0"), []),
+    ("2/2of2,3of2", None, "a\x07", 15, None, Answer(33, "bad number of members in plan group 1", first=1), []),
+    ("1of1", "fourteen bytes", None, 0, None, Answer(42, "secret of 14 bytes", first=14), []),
+    ("1of1", SECRET, None, 0, bytes(3), Answer(43, "random bytes: 2 needed", first=2), []),
 ]
 
 RECOVERED: List[Row] = [
     ([ONE], KEY, 0, None, DONE, SECRET),
     ([TWO_2, TWO_0], KEY, 2, None, DONE, TWO_SECRET),
     ([TWO_2, TWO_0], KEY, 1, None, HIGH, ""),
+    ([TWO_2, "# a comment", "", TWO_0], KEY, 15, None, DONE, TWO_SECRET),
+    ([TWO_2, TWO_0], KEY, 2**32 - 1, None, DONE, TWO_SECRET),
+    ([TWO_2, TWO_0], KEY, 0, None, HIGH, ""),
     ([TWO_2, TWO_0], "a\x07", 0, None, Answer(41, "passphrase byte 2 not printable", first=2), ""),
     ([SLOW_UNEVEN_0, SLOW_UNEVEN_1], None, 0, None, Answer(3, "exponent 1 above the maximum", first=1), ""),
     ([SLOW_UNEVEN_0, SLOW_UNEVEN_1], None, 1, None, Answer(51, "digest mismatch in group 0"), ""),
@@ -148,6 +165,8 @@ RECOVERED: List[Row] = [
     ([ONE], None, 0, None, DONE, OTHER_SECRET),
     ([ONE_WRONG], KEY, 0, None, Answer(13, "bad checksum", line=1), ""),
     ([FIVE_3, ONE_WRONG], KEY, 0, None, Answer(13, "bad checksum", line=2), ""),
+    (["# a note", ONE_WRONG], None, 0, None, Answer(13, "bad checksum", line=2), ""),
+    (["", "#", "academic x"], None, 0, None, Answer(11, "unknown word 2", line=3, first=2), ""),
     ([TWO_0, ONE], KEY, 15, None, Answer(21, "other identifier", line=2), ""),
     ([TWO_0], KEY, 0, None, Answer(30, "incomplete: 0 of 1 groups", second=1), ""),
     ([UNEVEN_0, UNEVEN_1], None, 15, None, Answer(51, "digest mismatch in group 0"), ""),
@@ -163,6 +182,21 @@ RECOVERED: List[Row] = [
     ([], "a\x07", 0, "df41d8fg", Answer(44, "bad fingerprint"), ""),
     ([TWO_2, TWO_0], KEY, 1, "df41d8fg", Answer(44, "bad fingerprint"), ""),
     ([TWO_2, TWO_0], KEY, 1, "df41d8fe", HIGH, ""),
+    (FOUR, KEY, 0, "Df41d8fE", DONE, SECRET),
+    (FOUR, KEY, 0, "ef41d8fe", Answer(52, "other secret"), ""),
+    (FOUR, KEY, 0, "df41d8fe00", Answer(44, "bad fingerprint"), ""),
+    (FOUR, KEY, 0, " df41d8fe", Answer(44, "bad fingerprint"), ""),
+    (FOUR, "a\x07", 0, "df41d8f", Answer(44, "bad fingerprint"), ""),
+    (["ducklin"], None, 0, "0", Answer(44, "bad fingerprint"), ""),
+    (FOUR, "a\x07", 0, "00000000", Answer(41, "passphrase byte 2 not printable", first=2), ""),
+    ([], None, 0, "00000000", Answer(29, "no shares"), ""),
+]
+
+# The causes that come before the room for a secret.
+RECOVERED_WITHOUT_ROOM: List[Row] = [
+    (FOUR, KEY, 0, "00000000", Answer(52, "other secret")),
+    ([SLOW_UNEVEN_0, SLOW_UNEVEN_1], None, 0, "00000000", Answer(3, "exponent 1 above the maximum", first=1)),
+    ([SLOW_UNEVEN_0, SLOW_UNEVEN_1], None, 1, "00000000", Answer(51, "digest mismatch in group 0")),
 ]
 
 
@@ -185,6 +219,11 @@ FIRST_PART = "".join(map(listed, ["0.0+0.1+1.0", "0.0+0.1+2.0", "0.0+0.2+1.0", "
 LAST_PART = "".join(map(listed, ["0.1+0.2+1.0", "0.1+0.2+2.0", "1.0+2.0"])) + "end\n"
 # After the room for the output come the answer, its number of mismatches, and the output. In a listing of the five, a line of a quorum of
 # three has 45 bytes. The last line has 23 bytes, unless it is "end".
+TWO_LISTED = "".join(map(listed, ["0.0+0.1+1.0", "0.0+0.1+2.0"])) + "more after 0.0+0.1+2.0\n"
+ONE_LISTED = listed("0.0+0.1+1.0") + "more after 0.0+0.1+1.0\n"
+OF_FOUR = ["0.0+0.1+1.0", "0.0+0.1+2.0", "1.0+2.0"]
+AS_EXPECTED = "".join(compared(it, "as expected") for it in OF_FOUR) + "end\n"
+OTHERS = "".join(compared(it, "other secret") for it in OF_FOUR) + "end\n"
 DRILLED: List[Row] = [
     ([ONE], KEY, 0, None, 9, DIGITS, None, 41, done(1, 37), 0, listed("0.0") + "end\n"),
     ([TWO_0, TWO_2], KEY, 2, "", 9, DIGITS, None, 45, done(1, 41), 0, f"0.0+0.2 {TWO_SECRET.hex()}\nend\n"),
@@ -198,6 +237,35 @@ DRILLED: List[Row] = [
     (FIVE, KEY, 15, "0.0+0.2+2.0", 9, DIGITS, None, 135, done(3, 131), 0, LAST_PART),
     (FIVE, KEY, 15, "0.1+0.2+2.0", 9, DIGITS, None, 45, done(1, 41), 0, listed("1.0+2.0") + "end\n"),
     (FIVE, KEY, 15, "1.0+2.0", 1, DIGITS, None, 4, done(0, 0), 0, "end\n"),
+    (FIVE, KEY, 0, None, 2, DIGITS, None, 150, done(2, 90), 0, TWO_LISTED),
+    (FIVE, KEY, 0, "0.1+0.2+1.0", 1, DIGITS, None, 150, done(1, 45), 0, listed("0.1+0.2+2.0") + "more after 0.1+0.2+2.0\n"),
+    (FIVE, KEY, 15, None, 7, DIGITS, None, 68, done(1, 45), 0, ONE_LISTED),
+    (FIVE, KEY, 15, None, 7, DIGITS, None, 112, done(1, 45), 0, ONE_LISTED),
+    (FIVE, KEY, 15, None, 7, DIGITS, None, 113, done(2, 90), 0, TWO_LISTED),
+    (FIVE, KEY, 15, None, 7, DIGITS, None, 140, done(2, 90), 0, TWO_LISTED),
+    ([UNEVEN_GROUP_0, UNEVEN_GROUP_1], None, 0, None, 9, FINGERPRINTS, None, 40, done(1, 34), 1, "0.0+1.0 digest mismatch of groups\nend\n"),
+    (FOUR, KEY, 0, None, 1000, FINGERPRINTS, None, 66, done(3, 59), 0, "".join(map(told, OF_FOUR)) + "end\n"),
+    (FOUR, KEY, 0, None, 1000, EXPECTED, "df41d8fe", 80, done(3, 68), 0, AS_EXPECTED),
+    (FOUR, KEY, 0, None, 1000, EXPECTED, "DF41d8FE", 80, done(3, 68), 0, AS_EXPECTED),
+    (FOUR, KEY, 0, None, 1000, EXPECTED, "df41d8ff", 80, done(3, 71), 3, OTHERS),
+    (FOUR, "a\x07", 0, "0.1+", 9, EXPECTED, "df41d8f", ROOM, Answer(61, "bad cursor"), 0, ""),
+    (FOUR, "a\x07", 0, "0.1", 9, EXPECTED, "df41d8f", ROOM, Answer(44, "bad fingerprint"), 0, ""),
+    (FOUR, None, 0, None, 9, EXPECTED, "df41d8fe00", ROOM, Answer(44, "bad fingerprint"), 0, ""),
+    (FOUR, "a\x07", 0, "0.1", 9, EXPECTED, "df41d8fe", ROOM, Answer(41, "passphrase byte 2 not printable", first=2), 0, ""),
+    (FOUR, None, 0, "0.1", 9, EXPECTED, "df41d8fe", ROOM, Answer(62, "cursor is no quorum"), 0, ""),
+    # Other forms don't use the fingerprint.
+    (FOUR, None, 0, "0.1", 9, FINGERPRINTS, "df41d8f", ROOM, Answer(62, "cursor is no quorum"), 0, ""),
+    (FOUR, None, 0, "0.1", 9, DIGITS, "df41d8f", ROOM, Answer(62, "cursor is no quorum"), 0, ""),
+    (FIVE, None, 15, "0.0+0.1+2.0+3.0", 1, DIGITS, None, ROOM, Answer(62, "cursor is no quorum"), 0, ""),
+    (FIVE, None, 15, None, 1, 2**32 - 1, None, ROOM, Answer(2, "number out of range"), 0, ""),
+    (FIVE, "a\x07", 15, "0.1+", 0, FINGERPRINTS, None, ROOM, Answer(2, "number out of range"), 0, ""),
+    # Limit and form, the cursor, the fingerprint, the passphrase, the exponent, and then whether the cursor names a quorum.
+    ([TWO_2, TWO_0], "a\x07", 1, "0.1+", 0, EXPECTED, None, 45, Answer(2, "number out of range"), 0, ""),
+    ([TWO_2, TWO_0], "a\x07", 1, "0.1+", 1, EXPECTED, None, 45, Answer(61, "bad cursor"), 0, ""),
+    ([TWO_2, TWO_0], "a\x07", 1, "0.1", 1, EXPECTED, None, 45, Answer(44, "bad fingerprint"), 0, ""),
+    ([TWO_2, TWO_0], "a\x07", 1, "0.1", 1, DIGITS, None, 45, Answer(41, "passphrase byte 2 not printable", first=2), 0, ""),
+    ([TWO_2, TWO_0], None, 1, "0.1", 1, DIGITS, None, 0, HIGH, 0, ""),
+    ([TWO_2, TWO_0], None, 2, "0.1", 1, DIGITS, None, 0, Answer(62, "cursor is no quorum"), 0, ""),
     ([UNEVEN_0, UNEVEN_1], None, 0, None, 1, DIGITS, None, 39, done(1, 35), 1, "0.0+0.1 digest mismatch in group 0\nend\n"),
     ([UNEVEN_GROUP_0, UNEVEN_GROUP_1], "", 0, "", 1, DIGITS, None, ROOM, done(1, 34), 1, "0.0+1.0 digest mismatch of groups\nend\n"),
     (FIVE, KEY, 15, "0.0+0.2+2.0", 9, FINGERPRINTS, None, 65, done(3, 59), 0, told("0.1+0.2+1.0") + told("0.1+0.2+2.0") + told("1.0+2.0") + "end\n"),
@@ -235,6 +303,12 @@ DRILLED: List[Row] = [
 STATUSES: List[Row] = [
     ([ONE], done(1, 1), "groups 1 of 1\ngroup 0 members 1 of 1 0.0\n"),
     ([TWO_2], done(0, 1), "groups 0 of 1\ngroup 0 members 1 of 2 0.2\n"),
+    ([FIVE_0], done(0, 2), "groups 0 of 2\ngroup 0 members 1 of 2 0.0\n"),
+    ([FIVE_4, FIVE_2, "", FIVE_0, FIVE_2], done(2, 2), "groups 2 of 2\ngroup 0 members 2 of 2 0.0+0.2\ngroup 2 members 1 of 1 2.0\n"),
+    ([FIVE_3, FIVE_0, FIVE_0], done(1, 2), "groups 1 of 2\ngroup 0 members 1 of 2 0.0\ngroup 1 members 1 of 1 1.0\n"),
+    ([FIVE_2, FIVE_1, FIVE_0], done(1, 2), "groups 1 of 2\ngroup 0 members 3 of 2 0.0+0.1+0.2\n"),
+    ([FIVE_0, "#", "academia"], Answer(11, "unknown word 1", line=3, first=1), ""),
+    ([FIVE_0, FORGED_0], Answer(28, "conflicting share 0.0", line=2), ""),
     ([FIVE_0, FIVE_3, FIVE_0], done(1, 2), "groups 1 of 2\ngroup 0 members 1 of 2 0.0\ngroup 1 members 1 of 1 1.0\n"),
     (FIVE, done(3, 2), "groups 3 of 2\ngroup 0 members 3 of 2 0.0+0.1+0.2\ngroup 1 members 1 of 1 1.0\ngroup 2 members 1 of 1 2.0\n"),
     ([FIVE_3, ONE_WRONG], Answer(13, "bad checksum", line=2), ""),
@@ -248,6 +322,11 @@ QUORUMS: List[Row] = [
     ([TWO_2], done(0, 0)),
     ([FIVE_0, FIVE_3, FIVE_0], done(0, 0)),
     (FIVE, done(7, 0)),
+    ([FIVE_0, FIVE_1, FIVE_2, FIVE_3], done(3, 0)),
+    (FOUR, done(3, 0)),
+    ([FIVE_4, FIVE_0, FIVE_3], done(1, 0)),
+    ([FIVE_0, "#", "academia"], Answer(11, "unknown word 1", line=3, first=1)),
+    ([FIVE_0, FORGED_0], Answer(28, "conflicting share 0.0", line=2)),
     ([FIVE_3, ONE_WRONG], Answer(13, "bad checksum", line=2)),
     ([TWO_0, ONE], Answer(21, "other identifier", line=2)),
     ([], Answer(29, "no shares")),
@@ -257,6 +336,14 @@ QUORUMS: List[Row] = [
 SPLIT_ANEW: List[Row] = [
     ("1of1", [OLD_2, OLD_0], bytes.fromhex("1234"), done(1, 0), [NEW_ONE]),
     (FIVE_PLAN, [OLD_0, OLD_2], FIVE_RANDOM, done(5, 0), NEW_FIVE),
+    (FIVE_PLAN, [OLD_2, "# a note", OLD_0, OLD_2], FIVE_RANDOM, done(5, 0), NEW_FIVE),
+    ("1of1", [HIGH_OLD_0, HIGH_OLD_2], bytes.fromhex("1234"), done(1, 0), [HIGH_NEW_ONE]),
+    (None, ["academia"], None, Answer(31, "bad plan"), []),
+    ("1of2", ["academia"], None, Answer(34, "one of many in plan group 0"), []),
+    (FIVE_PLAN, [ONE, "academia"], None, Answer(11, "unknown word 1", line=2, first=1), []),
+    (FIVE_PLAN, [OLD_0, ONE], None, Answer(21, "other identifier", line=2), []),
+    (FIVE_PLAN, [""], None, Answer(29, "no shares"), []),
+    ("1of1", [OLD_0, OLD_2], bytes.fromhex("236a00"), Answer(43, "random bytes: 2 needed", first=2), []),
     ("2/2of3", ["academia"], None, Answer(32, "bad number of groups in plan"), []),
     (FIVE_PLAN, [OLD_0, "academia"], None, Answer(11, "unknown word 1", line=2, first=1), []),
     (FIVE_PLAN, None, None, Answer(29, "no shares"), []),
@@ -275,6 +362,14 @@ REISSUED: List[Row] = [
     (FIVE_PLAN, "2.0", [FIVE_0, FIVE_1, FIVE_3], DONE, [FIVE_4]),
     (FIVE_PLAN, "0.0", [FIVE_0], DONE, [FIVE_0]),
     (FIVE_LARGER_PLAN, "0.3", [FIVE_0, FIVE_1], DONE, [FIVE_0_3]),
+    (FIVE_PLAN, "2.0", [FIVE_1, FIVE_0, "# a note", FIVE_3], DONE, [FIVE_4]),
+    (FIVE_PLAN, "0.0+0.2", [FIVE_0, FIVE_1, FIVE_0], DONE, [FIVE_0, FIVE_2]),
+    (FIVE_PLAN, "0.0+0.2+2.0", [FIVE_0, FIVE_3], Answer(66, "cannot tell 0.2: 1 of 2 members, 1 of 2 other groups", first=2, second=0x01020102), []),
+    (FIVE_PLAN, "3.1", ["academia"], Answer(64, "name 3.1 not in plan", first=3, second=1), []),
+    ("2of3", "1.0", ["academia"], Answer(64, "name 1.0 not in plan", first=1), []),
+    ("2/2of3", "0.1+0.0", ["academia"], Answer(32, "bad number of groups in plan"), []),
+    (FIVE_PLAN, "0.1", [FIVE_0, "academia"], Answer(11, "unknown word 1", line=2, first=1), []),
+    (FIVE_PLAN, "0.1", [""], Answer(29, "no shares"), []),
     (FIVE_PLAN, "0.1", [FIVE_3, FIVE_4], Answer(66, "cannot tell 0.1: 0 of 2 members, 2 of 2 other groups", first=1, second=0x00020202), []),
     (FIVE_PLAN, "0.1", [FIVE_0, FIVE_3], Answer(66, "cannot tell 0.1: 1 of 2 members, 1 of 2 other groups", first=1, second=0x01020102), []),
     (FIVE_PLAN, "2.0", [FIVE_0, FIVE_1], Answer(66, "cannot tell 2.0: 0 of 1 members, 1 of 2 other groups", first=512, second=0x00010102), []),
@@ -299,6 +394,9 @@ FINGERPRINTED: List[Row] = [
     (SECRET, DONE, "df41d8fe"),
     (TWO_SECRET, DONE, "5f5702dc"),
     (SECRET + b"\xff\xff", DONE, "26fdf302"),
+    (b"\xff" * 18, DONE, "932e90a2"),
+    (bytes(128), DONE, "08fe16b5"),
+    *((b"\x09" * it, Answer(42, f"secret of {it} bytes", first=it), "") for it in [14, 15, 17, 127, 129, 130]),
     (SECRET + b"\n", Answer(42, "secret of 17 bytes", first=17), ""),
     ("", Answer(42, "secret of 0 bytes"), ""),
     (None, Answer(42, "secret of 0 bytes"), ""),
@@ -309,6 +407,12 @@ WORDS: List[Row] = [
     ("em", DONE, "email\nemerald\nemission\nemperor\nemphasis\nemployer\nempty\n"),
     ("EMer", DONE, "emerald\n"),
     ("zero", DONE, "zero\n"),
+    ("Z", DONE, "zero\n"),
+    ("emerald", DONE, "emerald\n"),
+    ("academic", DONE, "academic\n"),
+    ("y", DONE, "year\nyelp\nyield\nyoga\n"),
+    ("wr", DONE, "wrap\nwrist\nwriting\nwrote\n"),
+    *((it, DONE, "") for it in ["x", "zz", " ", "academic ", "academical", "acad\n", "a1", "@", "[", "\xc4"]),
     ("zeros", DONE, ""),
     ("zero ", DONE, ""),
     ("\xc3\xa9", DONE, ""),
@@ -319,6 +423,8 @@ WORDS: List[Row] = [
 
 REPAIRED: List[Row] = [
     (ONE, done(1, 0), ONE + "\n"),
+    (" ".join(ONE.split()[:17]) + " ? ? ?", done(1, 0), ONE + "\n"),
+    ("DUCK? enla? acad? acad? agen? resu? leng? solu? frid? kidn? coal? piec? deal? husb? erod? duke? ajar? crit? deci? keyb?", done(1, 0), ONE + "\n"),
     (
         "duckling ? academic academic agency result length solution fridge kidney coal ? deal husband erode duke ajar critical decision keyboard",
         done(1, 0), ONE + "\n",
@@ -331,6 +437,9 @@ REPAIRED: List[Row] = [
     ("duckling enlarge academic academic agency " + REST + "zz?", Answer(11, "unknown word 20", first=20), ""),
     (ONE + "\n", Answer(11, "unknown word 20", first=20), ""),
     ("duckling ?", Answer(12, "2 words make no share", first=2), ""),
+    ("duckling enlarge zz?", Answer(11, "unknown word 3", first=3), ""),
+    ("duckling enlarge aca?", Answer(12, "3 words make no share", first=3), ""),
+    (" ".join(ONE.split()[:16]) + " ? ? ? ?", Answer(19, "4 unreadable words: at most 3", first=4), ""),
     (
         "? enlarge ? academic ? result ? solution fridge kidney coal piece deal husband erode duke ajar critical decision keyboard",
         Answer(19, "4 unreadable words: at most 3", first=4), "",
@@ -349,6 +458,35 @@ REPAIRED: List[Row] = [
         Answer(13, "bad checksum"), "",
     ),
     (None, Answer(12, "0 words make no share"), ""),
+]
+
+# The code and both details of an answer, and its text. Where no text tells what the answer has, it is unknown.
+TOLD: List[Row] = [
+    (1, 715, 0, "buffer too short: 715 bytes needed"),
+    (3, 15, 0, "exponent 15 above the maximum"),
+    (12, 19, 0, "19 words make no share"),
+    (14, 0, 0, "bad padding"),
+    (15, 0, 0, "group threshold above group count"),
+    (18, 110, 0, "bad checksum: if one word is wrong, it is word 110"),
+    (18, 256, 0, "unknown answer"),
+    (22, 0, 0, "other extendable flag"),
+    (23, 0, 0, "other exponent"),
+    (24, 0, 0, "other group threshold"),
+    (25, 0, 0, "other group count"),
+    (26, 0, 0, "other length"),
+    (27, 15, 0, "other member threshold in group 15"),
+    (27, 256, 0, "unknown answer"),
+    (28, 3, 12, "conflicting share 3.12"),
+    (28, 3, 256, "unknown answer"),
+    (33, 14, 0, "bad number of members in plan group 14"),
+    (34, 13, 0, "one of many in plan group 13"),
+    (41, 5, 0, "passphrase byte 5 not printable"),
+    (51, 15, 0, "digest mismatch in group 15"),
+    (64, 12, 3, "name 12.3 not in plan"),
+    (66, 0x0F0E, 0x010D020C, "cannot tell 15.14: 1 of 13 members, 2 of 12 other groups"),
+    (66, 0x10000, 0, "unknown answer"),
+    (71, 0, 0, "line too long"),
+    *((it, 0, 0, "unknown answer") for it in [5, 16, 69, 72, 73]),
 ]
 
 
@@ -390,6 +528,8 @@ def examples() -> Iterator[Example]:
         yield example("create", [plan, secret, key, exponent, 0, drawn], answer, lines)
     for lines, key, most, expected, answer, output in RECOVERED:
         yield example("recover", [lines, key, most, expected], answer, output)
+    for lines, key, most, expected, answer in RECOVERED_WITHOUT_ROOM:
+        yield example("recover", [lines, key, most, expected], answer, room=0)
     for lines, key, most, after, limit, form, expected, room, answer, mismatches, output in DRILLED:
         yield example("drill", [lines, key, most, after, limit, form, expected], answer, output, room=room, mismatches=mismatches)
     for lines, answer in QUORUMS:
@@ -401,7 +541,8 @@ def examples() -> Iterator[Example]:
     for call, table in [("status", STATUSES), ("fingerprint", FINGERPRINTED), ("words", WORDS), ("repair", REPAIRED)]:
         yield from (example(call, [given], answer, output) for given, answer, output in table)
     yield example("version", [], DONE, version())
-    yield example("text", [5, 0, 0, 0, 0, 0], DONE, "unknown answer")
+    for code, first, second, text in TOLD:
+        yield example("text", [code, 0, 3, first, second, 0], DONE, text)
 
 
 def version() -> str:
@@ -423,6 +564,7 @@ def calls_of(it: Example) -> Iterator[Made]:
         room = len(it.output) if it.answer.code == 0 else ROOM
     yield driver.line(it.call, it.arguments, room or None), wanted(it.answer, it.output, it.mismatches, it.share)
     if it.room is None and it.output:
+        yield driver.line(it.call, it.arguments, room + 1), wanted(it.answer, it.output, it.mismatches, it.share)
         short = wanted(Answer(TOO_SHORT, "", first=room))
         yield driver.line(it.call, it.arguments, room - 1), short
         yield driver.line(it.call, it.arguments, None), short

@@ -42,21 +42,3 @@ pub use version::shamir_version;
 pub use wiping::shamir_wipe;
 pub use words::shamir_words;
 
-#[cfg(test)]
-mod expected_tests;
-#[cfg(test)]
-mod exponent_tests;
-#[cfg(test)]
-mod fingerprint_tests;
-#[cfg(test)]
-mod reissue_tests;
-#[cfg(test)]
-mod repair_tests;
-#[cfg(test)]
-mod resplit_tests;
-#[cfg(test)]
-mod telling_tests;
-#[cfg(test)]
-mod tests;
-#[cfg(test)]
-mod words_tests;
