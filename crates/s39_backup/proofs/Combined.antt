@@ -1,10 +1,11 @@
 -- What is combined, as the code holds it.
-use Rattle.std.proofs.Common.{◌≡◌, ℕ, ◌<◌, ◌≤◌, ◌==◌, Bool, true, false, List, [], ◌∷◌, length, find, Contains, Option, Some, None, refl, sym, ap}
+use Rattle.std.proofs.Common.{◌≡◌, ℕ, ◌+◌, ◌<◌, ◌≤◌, ◌==◌, Bool, true, false, List, [], ◌∷◌, ◌++◌, length, get_or, take, find, Contains, Option, Some, None, refl, sym, ap}
 use Rattle.std.proofs.Common.{subst, ◌∙◌, arith}
 use Rattle.std.specs.Prelude.{IfSome, IsSome}
 use Rattle.std.specs.Borrow.{Bor}
-use Rattle.std.specs.Option.{option_copied}
-use Rattle.std.proofs.lemmas.List.{length-map}
+use Rattle.std.specs.Option.{option_copied, option_map}
+use Rattle.std.proofs.lemmas.List.{take_more}
+use Rattle.std.proofs.lemmas.List.Elements.{filter_map-append}
 use Rattle.std.proofs.lemmas.Bool.Decides.{nat_tests}
 use Rattle.arrayvec.specs.ArrayVec.{ArrayVec}
 use Rattle.s39_words.specs.declared.share.ShareFields.{ShareFields}
@@ -33,8 +34,25 @@ pub some_name : (set : List ShareFields) (names : Names) → IsExactQuorum set n
 some_name set [] quorum = let some = some_group set [] quorum in omega arith
 some_name set (n ∷ ns) quorum = omega arith
 
-pub length-indexed_group_shares : (items : List (ℕ × ArrayVec ℕ)) → length (indexed_group_shares items) ≡ length items
-length-indexed_group_shares items = length-map items (λ share. (share.0, share.1.items))
+-- a group share more
+pub indexed_group_shares-push : (items : List (Option (ℕ × ArrayVec ℕ))) (share : ℕ × ArrayVec ℕ)
+    → indexed_group_shares (items ++ Some share ∷ []) ≡ indexed_group_shares items ++ (share.0, share.1.items) ∷ []
+indexed_group_shares-push items share = filter_map-append (λ place. option_map (λ s. (s.0, s.1.items)) place) items (Some share ∷ [])
+
+-- a place more
+pub indexed_group_shares-more : (items : List (Option (ℕ × ArrayVec ℕ))) (i : ℕ) (place : Option (ℕ × ArrayVec ℕ)) → i < length items
+    → place ≡ get_or items i place
+    → indexed_group_shares (take (i + 1) items) ≡ indexed_group_shares (take i items) ++ indexed_group_shares (place ∷ [])
+indexed_group_shares-more items i place within is =
+    ap indexed_group_shares (take_more items i place within)
+    ∙ filter_map-append (λ p. option_map (λ s. (s.0, s.1.items)) p) (take i items) (get_or items i place ∷ [])
+    ∙ ap (λ p. indexed_group_shares (take i items) ++ indexed_group_shares (p ∷ [])) (sym is)
+
+-- there are at most as many as places
+pub indexed_group_shares-few : (items : List (Option (ℕ × ArrayVec ℕ))) → length (indexed_group_shares items) ≤ length items
+indexed_group_shares-few [] = omega arith
+indexed_group_shares-few (None ∷ places) = let few = indexed_group_shares-few places in omega arith
+indexed_group_shares-few (Some share ∷ places) = let few = indexed_group_shares-few places in omega arith
 
 module _ (set : List ShareFields) (names : Names) (quorum : IsExactQuorum set names) (group : ℕ) (members : List (ℕ × List ℕ))
     (is : members ≡ member_shares set names group) where

@@ -1,6 +1,7 @@
 -- The shares of one level, as they are combined. No public contract cites this.
-use Rattle.std.specs.Prelude.{◌≡◌, ◌≢◌, ℕ, ◌<◌, ◌≤◌, List, [], ◌∷◌, length, map, filter, nat_lt, All, AllPairs, Result}
-use Rattle.std.specs.List.{range_with_len}
+use Rattle.std.specs.Prelude.{◌≡◌, ◌≢◌, ℕ, ◌<◌, ◌≤◌, List, [], ◌∷◌, length, filter, nat_lt, All, AllPairs, Option, Result}
+use Rattle.std.specs.List.{range_with_len, filter_map}
+use Rattle.std.specs.Option.{option_map}
 use Rattle.std.specs.Result.{result_map_both}
 use Rattle.arrayvec.specs.ArrayVec.{ArrayVec}
 use Rattle.s39_kdf.specs.Limits.{shortest_secret}
@@ -11,11 +12,11 @@ use Rattle.s39_set.specs.ShareSet.{IsShareSet}
 use Rattle.s39_set.specs.Quorums.{HasJustTheGroups}
 
 -- each group share's index and bytes
-abbrev pub indexed_group_shares : List (ℕ × ArrayVec ℕ) → List (ℕ × List ℕ)
-indexed_group_shares shares = map (λ share. (share.0, share.1.items)) shares
+abbrev pub indexed_group_shares : List (Option (ℕ × ArrayVec ℕ)) → List (ℕ × List ℕ)
+indexed_group_shares shares = filter_map (λ place. option_map (λ share. (share.0, share.1.items)) place) shares
 
 -- the same of an answer
-abbrev pub in_pairs : {E : Type 0} → Result (ArrayVec (ℕ × ArrayVec ℕ)) E → Result (List (ℕ × List ℕ)) E
+abbrev pub in_pairs : {E : Type 0} → Result (ArrayVec (Option (ℕ × ArrayVec ℕ))) E → Result (List (ℕ × List ℕ)) E
 in_pairs result = result_map_both (λ shares. indexed_group_shares shares.items) (λ error. error) result
 
 -- the length of the values of a set's shares, in which they agree

@@ -284,7 +284,7 @@ fn combine_each(set: &ShareSet, groups: &[(u8, Members)]) -> Result<GroupShares,
         let Ok(share) = combine_least(set, *group) else {
             return Err(Mismatch::InGroup { group: group.0 });
         };
-        shares.push((group.0, share));
+        shares.push(Some((group.0, share)));
     }
     Ok(shares)
 }

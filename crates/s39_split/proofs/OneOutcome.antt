@@ -7,7 +7,7 @@ use Rattle.std.proofs.lemmas.List.{get_or_default}
 use Rattle.s39_field.specs.Interpolation.{InterpolatesBytes}
 use Rattle.s39_field.proofs.Strings.{strings_have_a_value, strings_have_one_value}
 use Rattle.s39_split.specs.Sharing.{digest_length, digest_place, secret_place, digest_of}
-use Rattle.s39_split.specs.Recovery.{Combines, CombinesSeveral, interpolated, checked, combined}
+use Rattle.s39_split.specs.Recovery.{CombinesSeveral, interpolated, checked, combined}
 use Rattle.s39_split.specs.Recovery.{SharesCombine, SharesCombineOnce, SecretsAreLikeTheirShares}
 use Rattle.s39_kdf.specs.Bytes.{AreBytes}
 use Rattle.s39_split.specs.Shares.{AreDistinct, HaveByteIndices}

@@ -59,12 +59,16 @@ impl<'a> Points<'a> {
         requires { length self.old < most_shares }
         ensures { self.new ≡ self.old ++ (place, value.now.items) ∷ [] }
     {
-        let mut points = match self.row {
-            Some(row) => row.points,
-            None => [(place, value); MAX_SHARES],
-        };
-        points[self.len] = (place, value);
-        self.row = Some(Row { points });
+        match &mut self.row {
+            Some(row) => {
+                let points = &mut row.points[..];
+                points[self.len] = (place, value);
+            }
+            None => {
+                let points = [(place, value); MAX_SHARES];
+                self.row = Some(Row { points });
+            }
+        }
         self.len += 1;
     }
 

@@ -1,12 +1,11 @@
 use Rattle.std.proofs.Common.{◌≡◌, ◌<◌, ◌≤◌, length, Ok, sym, ap, ◌∙◌, arith}
-use Rattle.std.proofs.lemmas.List.{map_push}
 use Rattle.s39_set.specs.Names.{most_groups}
 use Rattle.s39_split.specs.Recovery.{combined}
 use Rattle.s39_backup.specs.declared.combination.Mismatch.TheVariants.{InGroup}
 use Rattle.s39_backup.specs.Combination.{share_or_mismatch}
 use Rattle.s39_backup.specs.GroupShares.{indexed_group_shares, value_bytes_of}
-use Rattle.s39_backup.proofs.Levels.{few_group_shares, with_group, without_group, stops_at_group}
-use Rattle.s39_backup.proofs.Combined.{length-indexed_group_shares, length-members, members_can, some_from_test, none_from_test}
+use Rattle.s39_backup.proofs.Levels.{with_group, without_group, stops_at_group}
+use Rattle.s39_backup.proofs.Combined.{indexed_group_shares-push, length-members, members_can, some_from_test, none_from_test}
 use Rattle.s39_backup.proofs.combination.group_shares.Goals as goal
 use Rattle.s39_backup.proofs.combination.group_shares.Goals.{then-not-is_empty+in-Ok, else-not-is_empty}
 
@@ -26,17 +25,12 @@ returns-in_default c =
     let group = c.loop-group.group in
     let members = c.member_shares-members.result in
     let some : 0 < length members = some_from_test c.is_empty.result (length members) c.is_empty.ensures c.if-not-is_empty.true in
-    stops_at_group set names c.requires group (indexed_group_shares c.loop-group.shares.items) c.loop-group.invariant (InGroup group)
+    stops_at_group set names c.requires group (indexed_group_shares c.loop-group.shares.items) c.loop-group.invariant.combined (InGroup group)
     c.loop-group-test.true (omega (arith, length-members set names c.requires group members c.member_shares-members.ensures))
     (ap (share_or_mismatch group) (ap combined (sym c.member_shares-members.ensures) ∙ sym c.in_default.ensures))
 
 pub push-requires : goal.push-requires
-push-requires c =
-    let shares = c.loop-group.shares.items in
-    let few : length (indexed_group_shares shares) ≤ c.loop-group.group =
-    few_group_shares c.args.set.now c.args.names.now c.requires c.loop-group.group (indexed_group_shares shares) c.loop-group.invariant in
-    let room : length shares < most_groups = omega (arith, few, length-indexed_group_shares shares) in
-    (omega arith, omega arith)
+push-requires c = (omega (arith, c.loop-group.invariant.few), omega (arith, c.loop-group.invariant.few))
 
 pub loop-group-preserved : goal.loop-group-preserved
 loop-group-preserved c =
@@ -45,23 +39,30 @@ loop-group-preserved c =
     let group = c.loop-group.group in
     let members = c.member_shares-members.result in
     let shares = c.loop-group.shares.items in
+    let before = c.loop-group.invariant.combined in
     elim c.if-not-is_empty.branch [
-      | then-not-is_empty+in-Ok w ↦ (
+      | then-not-is_empty+in-Ok w ↦
           let some : 0 < length members = some_from_test c.is_empty.result (length members) c.is_empty.ensures w.if-not-is_empty.true in
-          with_group set names c.requires group (indexed_group_shares shares) c.loop-group.invariant (group, w.in-Ok.share.items)
-          (omega (arith, length-members set names c.requires group members c.member_shares-members.ensures))
-          (ap (share_or_mismatch group) (ap combined (sym c.member_shares-members.ensures) ∙ sym w.in-Ok.ensures))
-          ∙ sym (ap (λ v. Ok (indexed_group_shares v.items)) w.shares-is
-          ∙ ap (λ items. Ok (indexed_group_shares items)) w.push.ensures.items
-          ∙ ap (λ pairs. Ok pairs) (map_push (λ s. (s.0, s.1.items)) shares (group, w.in-Ok.share))))
-      | else-not-is_empty w ↦ (
+          record {
+            combined = with_group set names c.requires group (indexed_group_shares shares) before (group, w.in-Ok.share.items)
+                (omega (arith, length-members set names c.requires group members c.member_shares-members.ensures))
+                (ap (share_or_mismatch group) (ap combined (sym c.member_shares-members.ensures) ∙ sym w.in-Ok.ensures))
+                ∙ sym (ap (λ v. Ok (indexed_group_shares v.items)) w.shares-is
+                ∙ ap (λ items. Ok (indexed_group_shares items)) w.push.ensures.items
+                ∙ ap (λ pairs. Ok pairs) (indexed_group_shares-push shares (group, w.in-Ok.share)));
+            few = omega (arith, ap (λ v. length v.items) w.shares-is, w.push.ensures.len, c.loop-group.invariant.few);
+          }
+      | else-not-is_empty w ↦
           let none : length members ≤ 0 = none_from_test c.is_empty.result (length members) c.is_empty.ensures w.if-not-is_empty.false in
-          without_group set names c.requires group (indexed_group_shares shares) c.loop-group.invariant
-          (omega (arith, length-members set names c.requires group members c.member_shares-members.ensures))
-          ∙ sym (ap (λ v. Ok (indexed_group_shares v.items)) w.shares-is))
+          record {
+            combined = without_group set names c.requires group (indexed_group_shares shares) before
+                (omega (arith, length-members set names c.requires group members c.member_shares-members.ensures))
+                ∙ sym (ap (λ v. Ok (indexed_group_shares v.items)) w.shares-is);
+            few = omega (arith, ap (λ v. length v.items) w.shares-is, c.loop-group.invariant.few);
+          }
     ]
 
 pub returns : goal.returns
 returns c =
     let all : c.loop-group.group ≡ most_groups = omega arith in
-    rw all at c.loop-group.invariant
+    rw all at c.loop-group.invariant.combined

@@ -1,4 +1,4 @@
-use Rattle.std.proofs.Common.{◌≡◌, ℕ, [], length, take, arith, sym, ap, ◌∙◌}
+use Rattle.std.proofs.Common.{◌≡◌, ℕ, ◌+◌, ◌++◌, [], ◌∷◌, length, take, replicate, arith, sym, ap, ◌∙◌}
 use Rattle.std.specs.Borrow.{Bor}
 use Rattle.std.proofs.lemmas.List.{length-replicate, length-set}
 use Rattle.arrayvec.specs.ArrayVec.{ArrayVec}
@@ -17,31 +17,36 @@ pub invariant_of-self : goal.invariant_of-self
 invariant_of-self c =
     let count = length-standing c.self.inside.row c.self.inside.len c.args.self.now c.self.invariant.0 c.self.invariant.1 c.self.invariant.2 c.self.view_is in
     let point : ℕ × Bor (ArrayVec ℕ) = (c.args.place, c.args.value) in
-    let long : length c.match-self.points ≡ most_shares = elim c.match-self.branch [
-      | in-Some w ↦ ap length w.points-is ∙ c.self.invariant.1 w.in-Some.row w.in-Some.is
-      | in-None w ↦ ap length w.points-is ∙ length-replicate {A = ℕ × Bor (ArrayVec ℕ)} most_shares point
-    ] in (
-      omega arith,
-      λ row is. put_row _ row is (length-set c.match-self.points c.self.inside.len point ∙ long),
-      λ none. cc,
-    )
+    elim c.match-self.branch [
+      | in-Some w ↦ (
+        omega (arith, ap (λ i. i.len) w.self-inside-is),
+        λ row is. put_row _ row (sym (ap (λ i. i.row) w.self-inside-is) ∙ is)
+            (length-set w.in-Some.row.points c.self.inside.len point ∙ c.self.invariant.1 w.in-Some.row w.in-Some.is),
+        λ none. let some = ap (λ i. i.row) w.self-inside-is in cc,
+      )
+      | in-None w ↦ (
+        omega (arith, ap (λ i. i.len) w.self-inside-is),
+        λ row is. put_row _ row (sym (ap (λ i. i.row) w.self-inside-is) ∙ is) (length-replicate {A = ℕ × Bor (ArrayVec ℕ)} most_shares point),
+        λ none. let some = ap (λ i. i.row) w.self-inside-is in cc,
+      )
+    ]
 
 pub returns : goal.returns
 returns c =
     let count = length-standing c.self.inside.row c.self.inside.len c.args.self.now c.self.invariant.0 c.self.invariant.1 c.self.invariant.2 c.self.view_is in
     let point : ℕ × Bor (ArrayVec ℕ) = (c.args.place, c.args.value) in
-    let points = c.match-self.points in
     let len = c.self.inside.len in
     elim c.match-self.branch [
       | in-Some w ↦
-          let long : length points ≡ most_shares = ap length w.points-is ∙ c.self.invariant.1 w.in-Some.row w.in-Some.is in
-          let held : standing c.self.inside.row ≡ points = ap standing w.in-Some.is ∙ sym w.points-is in
-          point_written points len point c.args.self.now (omega arith)
-          (ap (λ ps. indexed_bytes (take len ps)) (sym held) ∙ c.self.view_is)
+          let long : length w.in-Some.row.points ≡ most_shares = c.self.invariant.1 w.in-Some.row w.in-Some.is in
+          ap (λ i. indexed_bytes (take (i.len + 1) (standing i.row))) w.self-inside-is
+          ∙ point_written w.in-Some.row.points len point c.args.self.now (omega arith)
+          (ap (λ row. indexed_bytes (take len (standing row))) (sym w.in-Some.is) ∙ c.self.view_is)
       | in-None w ↦
-          let long : length points ≡ most_shares = ap length w.points-is ∙ length-replicate {A = ℕ × Bor (ArrayVec ℕ)} most_shares point in
           let none : len ≡ 0 = c.self.invariant.2 w.in-None.is in
           let empty : c.args.self.now ≡ [] =
           sym c.self.view_is ∙ ap (λ row. indexed_bytes (take len (standing row))) w.in-None.is ∙ ap (λ n. indexed_bytes (take n [])) none in
-          point_written points len point c.args.self.now (omega arith) (ap (λ n. indexed_bytes (take n points)) none ∙ sym empty)
+          ap (λ i. indexed_bytes (take (i.len + 1) (standing i.row))) w.self-inside-is
+          ∙ ap (λ n. indexed_bytes (take (n + 1) (replicate most_shares point))) none
+          ∙ ap (λ ps. ps ++ (c.args.place, c.args.value.now.items) ∷ []) (sym empty)
     ]
