@@ -1,8 +1,7 @@
+mod InSteps
 mod Outputs
 mod OneAnswer
 mod OneSecret
-mod OneReissue
-mod OneSplit
 mod MostExponents
 mod Rooms
 mod WordLines

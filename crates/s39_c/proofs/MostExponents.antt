@@ -30,6 +30,7 @@ use Rattle.s39_c.specs.Answers.{high_exponent, refused}
 use Rattle.s39_c.specs.Drilling.{GivesListing, GivesDrill}
 use Rattle.s39_c.specs.Exponents.{up_to, IsUpTo, GivesUpTo}
 use Rattle.s39_c.specs.Recovering.{GivesSecret, GivesExpectedSecret}
+use Rattle.s39_c.proofs.InSteps.{Once, step_once}
 
 abbrev chosen : Bool → ℕ → List ShareFields → Result (List ShareFields) ShamirAnswer
 chosen high exponent set = if high then Err (high_exponent exponent) else Ok set
@@ -55,12 +56,6 @@ pub refused_up_to : (most exponent : ℕ) (set : List ShareFields) (refusal : Sh
     → refusal ≡ high_exponent exponent
 refused_up_to most exponent set refusal is = chosen_refusal (nat_lt most exponent) exponent set refusal is
 
-abbrev slice_of : List ℕ × ShamirAnswer → List ℕ
-slice_of given = given.0
-
-abbrev answer_of : List ℕ × ShamirAnswer → ShamirAnswer
-answer_of given = given.1
-
 module _ (most : ℕ) (passphrase lines : List ℕ) where
   -- the set is that of the lines
   pub checked_up_to : (set : List ShareFields) → IsUpTo most passphrase lines (Ok set) → IsCheckedSet passphrase (whole lines) (Ok set)
@@ -77,8 +72,8 @@ module _ (most : ℕ) (passphrase lines : List ℕ) where
       → (old new : List ℕ) (answer : ShamirAnswer)
       → GivesSecret (λ text written. WritesSecret Digits expected passphrase set (text, written)) old new answer
       → GivesSecret (IsRecoverOutput Digits expected passphrase (whole lines)) old new answer
-  secret_of_checked expected set checked old new answer (inl (secret, bytes, writes, given)) = inl (secret, bytes, gives set checked writes, given)
-  secret_of_checked expected set checked old new answer (inr (fault, writes, same, says)) = inr (fault, gives set checked writes, same, says)
+  secret_of_checked expected set checked old new answer (inr (secret, (bytes, writes), given)) = inr (secret, (bytes, gives set checked writes), given)
+  secret_of_checked expected set checked old new answer (inl (fault, writes, same, says)) = inl (fault, gives set checked writes, same, says)
 
   -- and one
   pub one_up_to : CheckedSetLaws → ((set : List ShareFields) → AtMostOne (IsExponent set)) → AtMostOne (IsUpTo most passphrase lines)
@@ -86,19 +81,9 @@ module _ (most : ℕ) (passphrase lines : List ℕ) where
       then_once (IsCheckedSet passphrase (whole lines)) _ _ (laws.once passphrase (whole lines))
       (λ set _. then_once (IsExponent set) _ _ (one_exponent set) (λ exponent _ r s p q. p ∙ sym q))
 
-  pub up_to_once : (Given : List ℕ → ShamirAnswer → Type 0) → AtMostOne (IsUpTo most passphrase lines)
-      → (old new other : List ℕ) (answer another : ShamirAnswer)
-      → (Given new answer → Given other another → (new ≡ other) × (answer ≡ another)) → GivesUpTo most passphrase lines Given old new answer
-      → GivesUpTo most passphrase lines Given old other another → (new ≡ other) × (answer ≡ another)
-  up_to_once Given once old new other answer another same (gives set is given) (gives set' is' also) = same given also
-  up_to_once Given once old new other answer another same (gives set is given) (refuses refusal is' at) =
-      let differ = once (Ok set) (Err refusal) is is' in absurd (cc)
-  up_to_once Given once old new other answer another same (refuses refusal is at) (gives set is' also) =
-      let differ = once (Err refusal) (Ok set) is is' in absurd (cc)
-  up_to_once Given once old new other answer another same (refuses refusal is at) (refuses refusal' is' at') =
-      let both = once (Err refusal) (Err refusal') is is' in
-      let refusals : refusal ≡ refusal' = cc in
-      (ap slice_of at ∙ sym (ap slice_of at'), ap answer_of at ∙ refusals ∙ sym (ap answer_of at'))
+  pub up_to_once : (Given : List ℕ → ShamirAnswer → Type 0) → AtMostOne (IsUpTo most passphrase lines) → Once Given → (old : List ℕ)
+      → Once (GivesUpTo most passphrase lines Given old)
+  up_to_once Given once one old = step_once (IsUpTo most passphrase lines) (λ refusal. refusal) (λ _. Given) old once (λ _ _. one)
 
   -- If no exponent is above the maximum, only the passphrase, a line or a lack is refused.
   module _ (laws : CheckedSetLaws) (at_most_15 : (set : List ShareFields) → IsShareSet set → exponent_of set ≤ 15) (all : 15 ≤ most) where
@@ -128,11 +113,11 @@ module _ (most : ℕ) (passphrase lines : List ℕ) where
         → GivesExpectedSecret (λ noted. GivesUpTo most passphrase lines
         (GivesSecret (IsRecoverOutput Digits noted passphrase (whole lines)) old) old) digits old new answer
         → GivesExpectedSecret (λ noted. GivesSecret (IsRecoverOutput Digits noted passphrase (whole lines)) old) digits old new answer
-    every_secret digits old new answer (inl refused) = inl refused
-    every_secret digits old new answer (inr (noted, is, gives set up given)) = inr (noted, is, given)
-    every_secret digits old new answer (inr (noted, is, refuses refusal up at)) =
+    every_secret digits old new answer (inl none) = inl none
+    every_secret digits old new answer (inr (noted, is, inr (set, up, given))) = inr (noted, is, given)
+    every_secret digits old new answer (inr (noted, is, inl (refusal, up, same, at))) =
         let (fault, why, says) = refused_set refusal up in
-        inr (noted, is, inr (fault, recover_refusal noted fault why, ap slice_of at, ap answer_of at ∙ says))
+        inr (noted, is, inl (fault, recover_refusal noted fault why, same, at ∙ says))
 
     abbrev nothing_listed : Fault → List ℕ × Result Done Fault
     nothing_listed fault = nothing_for fault
@@ -148,25 +133,11 @@ module _ (most : ℕ) (passphrase lines : List ℕ) where
         (GivesListing (λ n. IsDrillOutput form passphrase names n (whole lines)) limit old) old) cursor limit number digits old new answer
         → GivesDrill (λ form names. GivesListing (λ n. IsDrillOutput form passphrase names n (whole lines)) limit old)
         cursor limit number digits old new answer
-    every_listing cursor limit number digits old new answer (inl refused) = inl refused
-    every_listing cursor limit number digits old new answer (inr (some, form, is, inl refused)) = inr (some, form, is, inl refused)
-    every_listing cursor limit number digits old new answer (inr (some, form, is, inr (after, names, inl refused))) =
-        inr (some, form, is, inr (after, names, inl refused))
-    every_listing cursor limit number digits old new answer (inr (some, form, is, inr (after, names, inr (kind, of, gives set up given)))) =
-        inr (some, form, is, inr (after, names, inr (kind, of, given)))
-    every_listing cursor limit number digits old new answer (inr (some, form, is, inr (after, names, inr (kind, of, refuses refusal up at)))) =
+    every_listing cursor limit number digits old new answer (inl none) = inl none
+    every_listing cursor limit number digits old new answer (inr (form, is, inl none)) = inr (form, is, inl none)
+    every_listing cursor limit number digits old new answer (inr (form, is, inr (after, names, inl none))) = inr (form, is, inr (after, names, inl none))
+    every_listing cursor limit number digits old new answer (inr (form, is, inr (after, names, inr (kind, of, inr (set, up, given))))) =
+        inr (form, is, inr (after, names, inr (kind, of, given)))
+    every_listing cursor limit number digits old new answer (inr (form, is, inr (after, names, inr (kind, of, inl (refusal, up, same, at))))) =
         let (fault, why, says) = refused_set refusal up in
-        inr (
-          some,
-          form,
-          is,
-          inr (
-            after,
-            names,
-            inr (
-              kind,
-              of,
-              inr (inr (fault, drill_refusal kind after limit fault why, ap slice_of at, ap answer_of at ∙ says)),
-            ),
-          ),
-        )
+        inr (form, is, inr (after, names, inr (kind, of, inr (inr (fault, drill_refusal kind after limit fault why, same, at ∙ says)))))

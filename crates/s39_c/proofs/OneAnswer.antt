@@ -1,5 +1,5 @@
 -- What calls give of the same things, and of what was in memory, is one answer and one memory.
-use Rattle.std.proofs.Common.{◌≡◌, ◌≢◌, ◌⊎◌, ℕ, ◌<◌, ◌≤◌, ◌^◌, Bool, true, List, [], ◌∷◌, length, length-append, refl, sym, ap, ap₂, subst, ◌∙◌, inl, inr}
+use Rattle.std.proofs.Common.{◌≡◌, ◌≢◌, ℕ, ◌<◌, ◌^◌, Bool, true, List, [], ◌∷◌, length, length-append, refl, sym, ap, ap₂, subst, ◌∙◌, inl, inr}
 use Rattle.std.proofs.Common.{arith}
 use Rattle.std.proofs.Common.{Option, Some, None, Result, Ok, Err}
 use Rattle.std.proofs.Math.Bridge.{le_prop}
@@ -14,8 +14,9 @@ use Rattle.s39_set.specs.Written.{name_text, quorum_text, IsWrittenForm}
 use Rattle.s39_backup.specs.declared.options.Options.{Options}
 use Rattle.s39_backup.specs.declared.plan.Members.{Members}
 use Rattle.s39_backup.specs.declared.plan_error.PlanError.{PlanError}
-use Rattle.s39_backup.specs.Plan.{IsPlanReading}
+use Rattle.s39_backup.specs.Plan.{IsPlan, IsPlanReading}
 use Rattle.s39_backup.specs.Created.{random_needed, Asked}
+use Rattle.s39_input.proofs.Steps.{AtMostOne}
 use Rattle.s39_input.specs.declared.fault.Fault.{Fault}
 use Rattle.s39_drilling.specs.declared.listing.Listing.{Listing}
 use Rattle.s39_input.specs.declared.slices.Unwritten.{Unwritten}
@@ -24,39 +25,39 @@ use Rattle.s39_kdf.specs.declared.noted.BadFingerprint.{BadFingerprint}
 use Rattle.s39_kdf.specs.declared.secret_form.SecretForm.{SecretForm}
 use Rattle.s39_input.specs.Input.{Input, lines_in, whole}
 use Rattle.s39_input.specs.Create.{IsCreateOutput}
+use Rattle.s39_creating.specs.Reissue.{IsReissueOutput}
+use Rattle.s39_creating.specs.Resplit.{IsResplitOutput}
 use Rattle.s39_drilling.specs.Drill.{IsDrillOutput}
 use Rattle.s39_drilling.specs.Slices.{Lists}
 use Rattle.s39_c.specs.declared.answer.ShamirAnswer.{ShamirAnswer}
-use Rattle.s39_c.specs.Answers.{GivesAs, Gives, done, created, number, plan_refused, refused, unwritten, listed}
-use Rattle.s39_c.specs.Creating.{Wanted, Asks, GivesMnemonics, GivesBackup, GivesNumber}
-use Rattle.s39_c.specs.Drilling.{form_of, IsCursor, GivesListing, GivesDrillIn, GivesDrillAfter, GivesDrill}
+use Rattle.s39_c.specs.Answers.{done, created, number, out_of_range, cursor_refused, names_refused, fingerprint_refused, plan_refused, unwritten, listed}
+use Rattle.s39_c.specs.Creating.{Wanted, Asks, IsAsked, IsExponentInRange, GivesBackup, GivesNumber}
+use Rattle.s39_c.specs.Drilling.{IsCursor, IsInRange, GivesListing, GivesDrill}
 use Rattle.s39_c.specs.Fingerprinting.{GivesFingerprint}
-
--- the same bytes are given in one way
-pub gives_as_once : (success : ShamirAnswer) (bytes old new other : List ℕ) (answer another : ShamirAnswer) → GivesAs success bytes old new answer
-    → GivesAs success bytes old other another → (new ≡ other) × (answer ≡ another)
-gives_as_once success bytes old new other answer another (inl (fits, is, says)) (inl (also, same, too)) = (is ∙ sym same, says ∙ sym too)
-gives_as_once success bytes old new other answer another (inl (fits, is, says)) (inr (long, same, too)) = absurd (omega (arith, fits, long))
-gives_as_once success bytes old new other answer another (inr (long, is, says)) (inl (fits, same, too)) = absurd (omega (arith, fits, long))
-gives_as_once success bytes old new other answer another (inr (long, is, says)) (inr (also, same, too)) = (is ∙ sym same, says ∙ sym too)
-
-pub gives_once : (bytes old new other : List ℕ) (answer another : ShamirAnswer) → Gives bytes old new answer → Gives bytes old other another
-    → (new ≡ other) × (answer ≡ another)
-gives_once bytes = gives_as_once (done (length bytes)) bytes
+use Rattle.s39_c.specs.Reissuing.{AreListed, GivesReissued}
+use Rattle.s39_c.specs.Resplitting.{GivesSplit}
+use Rattle.s39_c.proofs.InSteps.{Once, OneOutput, gives_as_once, step_once, output_once}
 
 -- a fingerprint is given in one way
-pub fingerprint_once : (secret old new other : List ℕ) (answer another : ShamirAnswer) → GivesFingerprint secret old new answer
-    → GivesFingerprint secret old other another → (new ≡ other) × (answer ≡ another)
+pub fingerprint_once : (secret old : List ℕ) → Once (GivesFingerprint secret old)
 fingerprint_once secret old new other answer another (inl (bad, is, says)) (inl (also, same, too)) = (is ∙ sym same, says ∙ sym too)
 fingerprint_once secret old new other answer another (inl (bad, is, says)) (inr (right, gives)) = absurd (bad right)
 fingerprint_once secret old new other answer another (inr (right, gives)) (inl (bad, is, says)) = absurd (bad right)
 fingerprint_once secret old new other answer another (inr (right, gives)) (inr (also, given)) =
-    gives_once (encode_lower (fingerprint_of secret)) old new other answer another gives given
+    let digits = encode_lower (fingerprint_of secret) in gives_as_once (done (length digits)) digits old new other answer another gives given
+
+-- ---- a list of names
+
+listed_once : ((text : List ℕ) (names others : Names) → IsWrittenForm text names → IsWrittenForm text others → names ≡ others) → (listed : List ℕ)
+    → AtMostOne (AreListed listed)
+listed_once once listed (Ok names) (Ok others) p q = ap Ok (once listed names others p q)
+listed_once once listed (Ok names) (Err bad) p q = absurd (q names p)
+listed_once once listed (Err bad) (Ok names) p q = absurd (p names q)
+listed_once once listed (Err bad) (Err other) p q = refl
 
 -- ---- a plan
 
-module _ (one_plan_reading : (text : List ℕ) (reading other : Result (ℕ × List Members) PlanError)
-    → IsPlanReading text reading → IsPlanReading text other → reading ≡ other) where
+module _ (one_plan_reading : (text : List ℕ) → AtMostOne (IsPlanReading text)) where
   abbrev plan_of : ℕ × List Members → Result (ℕ × List Members) PlanError
   plan_of x = Ok x
 
@@ -121,43 +122,45 @@ module _ (one_plan_reading : (text : List ℕ) (reading other : Result (ℕ × L
       ap₂ (λ s p. asked_of s p (asked.group_threshold, asked.groups) asked.options) (is.secret ∙ sym also.secret) (is.passphrase ∙ sym also.passphrase)
       ∙ ap₂ (λ (plan : ℕ × List Members) (o : Options). asked_of other.secret other.passphrase plan o) plans options
 
-  module _ (one_create_output : (asked : Asked) (input : Input) (text other : List ℕ) (answer another : Result (Unit {0}) Fault)
-      → IsCreateOutput asked input text answer → IsCreateOutput asked input other another → (text ≡ other) × (answer ≡ another)) where
-    mnemonics_once : (asked : Asked) (random old new other : List ℕ) (answer another : ShamirAnswer) → GivesMnemonics asked random old new answer
-        → GivesMnemonics asked random old other another → (new ≡ other) × (answer ≡ another)
-    mnemonics_once asked random old new other answer another (inl (text, output, gives)) (inl (text', output', gives')) =
-        let same : text' ≡ text = (one_create_output asked (whole random) text' text (Ok tt) (Ok tt) output' output).0 in
-        gives_as_once (created (length text) (lines_in text)) text old new other answer another gives
-        (subst (λ (t : List ℕ). GivesAs (created (length t) (lines_in t)) t old other another) same gives')
-    mnemonics_once asked random old new other answer another (inl (text, output, gives)) (inr (fault, output', is, says)) =
-        let same = (one_create_output asked (whole random) text [] (Ok tt) (Err fault) output output').1 in
-        absurd (cc)
-    mnemonics_once asked random old new other answer another (inr (fault, output', is, says)) (inl (text, output, gives)) =
-        let same = (one_create_output asked (whole random) text [] (Ok tt) (Err fault) output output').1 in
-        absurd (cc)
-    mnemonics_once asked random old new other answer another (inr (fault, output, is, says)) (inr (fault', output', is', says')) =
-        let same = (one_create_output asked (whole random) [] [] (Err fault) (Err fault') output output').1 in
-        let faults : fault ≡ fault' = cc in
-        (is ∙ sym is', says ∙ ap refused faults ∙ sym says')
+  range_once : (exponent : ℕ) → AtMostOne (IsExponentInRange exponent)
+  range_once exponent (Ok low) (Ok also) p q = refl
+  range_once exponent (Ok low) (Err high) p q = absurd (omega (arith, p, q))
+  range_once exponent (Err high) (Ok low) p q = absurd (omega (arith, p, q))
+  range_once exponent (Err high) (Err also) p q = refl
 
-    pub backup_once : (wanted : Wanted) (random old new other : List ℕ) (answer another : ShamirAnswer) → GivesBackup wanted random old new answer
-        → GivesBackup wanted random old other another → (new ≡ other) × (answer ≡ another)
-    backup_once wanted random old new other answer another (inl (high, is, says)) (inl (high', is', says')) = (is ∙ sym is', says ∙ sym says')
-    backup_once wanted random old new other answer another (inl (high, is, says)) (inr (inl low)) = absurd (omega (arith, high, low.0))
-    backup_once wanted random old new other answer another (inl (high, is, says)) (inr (inr low)) = absurd (omega (arith, high, low.0))
-    backup_once wanted random old new other answer another (inr (inl low)) (inl (high, is, says)) = absurd (omega (arith, high, low.0))
-    backup_once wanted random old new other answer another (inr (inr low)) (inl (high, is, says)) = absurd (omega (arith, high, low.0))
-    backup_once wanted random old new other answer another (inr (inl (low, e, reads, is, says))) (inr (inl (low', d, reads', is', says'))) =
-        (is ∙ sym is', says ∙ ap plan_refused (same_cause e d (one_plan_reading wanted.plan (Err e) (Err d) reads reads')) ∙ sym says')
-    backup_once wanted random old new other answer another (inr (inl (low, e, reads, is, says))) (inr (inr (low', asked, asks, gives))) =
-        absurd (no_plan (asked.group_threshold, asked.groups) e
-        (one_plan_reading wanted.plan (Ok (asked.group_threshold, asked.groups)) (Err e) asks.plan reads))
-    backup_once wanted random old new other answer another (inr (inr (low', asked, asks, gives))) (inr (inl (low, e, reads, is, says))) =
-        absurd (no_plan (asked.group_threshold, asked.groups) e
-        (one_plan_reading wanted.plan (Ok (asked.group_threshold, asked.groups)) (Err e) asks.plan reads))
-    backup_once wanted random old new other answer another (inr (inr (low, asked, asks, gives))) (inr (inr (low', asked', asks', gives'))) =
-        mnemonics_once asked random old new other answer another gives
-        (subst (λ (a : Asked). GivesMnemonics a random old other another) (asked_once wanted asked' asked asks' asks) gives')
+  is_asked_once : (wanted : Wanted) → AtMostOne (IsAsked wanted)
+  is_asked_once wanted (Ok asked) (Ok other) is also = ap Ok (asked_once wanted asked other is also)
+  is_asked_once wanted (Ok asked) (Err e) is reads =
+      let plan : ℕ × List Members = (asked.group_threshold, asked.groups) in absurd (no_plan plan e (one_plan_reading wanted.plan (Ok plan) (Err e) is.plan reads))
+  is_asked_once wanted (Err e) (Ok asked) reads is =
+      let plan : ℕ × List Members = (asked.group_threshold, asked.groups) in absurd (no_plan plan e (one_plan_reading wanted.plan (Ok plan) (Err e) is.plan reads))
+  is_asked_once wanted (Err e) (Err d) reads also = ap Err (same_cause e d (one_plan_reading wanted.plan (Err e) (Err d) reads also))
+
+  pub backup_once : ((asked : Asked) (input : Input) → OneOutput (IsCreateOutput asked input)) → (wanted : Wanted) (random old : List ℕ)
+      → Once (GivesBackup wanted random old)
+  backup_once one_create_output wanted random old =
+      step_once (IsExponentInRange wanted.exponent) (λ _. out_of_range) _ old (range_once wanted.exponent)
+      (λ _ _. step_once (IsAsked wanted) plan_refused _ old (is_asked_once wanted)
+      (λ asked _. output_once (λ text. created (length text) (lines_in text)) (IsCreateOutput asked (whole random)) old (one_create_output asked (whole random))))
+
+  pub split_once : ((threshold : ℕ) (groups : List Members) (random : List ℕ) (input : Input) → OneOutput (IsResplitOutput threshold groups random input))
+      → (plan lines random old : List ℕ) → Once (GivesSplit (λ threshold groups. IsResplitOutput threshold groups random (whole lines)) plan old)
+  split_once one_resplit_output plan lines random old =
+      step_once (IsPlanReading plan) plan_refused _ old (one_plan_reading plan)
+      (λ read _. output_once (λ text. created (length text) (lines_in text)) (IsResplitOutput read.0 read.1 random (whole lines)) old
+      (one_resplit_output read.0 read.1 random (whole lines)))
+
+  pub reissue_once : ((text : List ℕ) (names others : Names) → IsWrittenForm text names → IsWrittenForm text others → names ≡ others)
+      → ((threshold : ℕ) (groups : List Members) (names : Names) (input : Input) (text other : List ℕ) (answer another : Result (Unit {0}) Fault)
+      → IsPlan threshold groups → IsReissueOutput threshold groups names input text answer → IsReissueOutput threshold groups names input other another
+      → (text ≡ other) × (answer ≡ another))
+      → (plan listed lines old : List ℕ)
+      → Once (GivesReissued (λ threshold groups names. IsReissueOutput threshold groups names (whole lines)) plan listed old)
+  reissue_once written_once one_reissue_output plan listed lines old =
+      step_once (IsPlanReading plan) plan_refused _ old (one_plan_reading plan)
+      (λ read is. step_once (AreListed listed) (λ _. names_refused) _ old (listed_once written_once listed)
+      (λ names _. output_once (λ text. done (length text)) (IsReissueOutput read.0 read.1 names (whole lines)) old
+      (λ text other answer another. one_reissue_output read.0 read.1 names (whole lines) text other answer another is.1)))
 
 -- ---- a drill
 
@@ -209,63 +212,30 @@ module _ (one_listing_in_a_slice : (form : SecretForm) (passphrase : List ℕ) (
 -- What is given with a text, a cursor and a number is one thing where it is with each form and each list of names.
 module _ (written_once : (text : List ℕ) (names others : Names) → IsWrittenForm text names → IsWrittenForm text others → names ≡ others) where
   -- a text writes one list of names, or none
-  cursor_once : (cursor : List ℕ) (after other : Option Names) → IsCursor cursor after → IsCursor cursor other → after ≡ other
-  cursor_once cursor None None is also = refl
-  cursor_once cursor None (Some names) is also = absurd (no_empty_form names (subst (λ (t : List ℕ). IsWrittenForm t names) is also))
-  cursor_once cursor (Some names) None is also = absurd (no_empty_form names (subst (λ (t : List ℕ). IsWrittenForm t names) also is))
-  cursor_once cursor (Some names) (Some others) is also = ap Some (written_once cursor names others is also)
+  cursor_once : (cursor : List ℕ) → AtMostOne (IsCursor cursor)
+  cursor_once cursor (Ok None) (Ok None) is also = refl
+  cursor_once cursor (Ok None) (Ok (Some names)) is also = absurd (no_empty_form names (subst (λ (t : List ℕ). IsWrittenForm t names) is also))
+  cursor_once cursor (Ok (Some names)) (Ok None) is also = absurd (no_empty_form names (subst (λ (t : List ℕ). IsWrittenForm t names) also is))
+  cursor_once cursor (Ok (Some names)) (Ok (Some others)) is also = let same = written_once cursor names others is also in cc
+  cursor_once cursor (Ok None) (Err bad) is none = absurd (none.0 is)
+  cursor_once cursor (Ok (Some names)) (Err bad) is none = absurd (none.1 names is)
+  cursor_once cursor (Err bad) (Ok None) none is = absurd (none.0 is)
+  cursor_once cursor (Err bad) (Ok (Some names)) none is = absurd (none.1 names is)
+  cursor_once cursor (Err bad) (Err other) none also = refl
 
-  no_form : (cursor : List ℕ) (after : Option Names) → IsCursor cursor after → cursor ≢ []
-      → ((names : Names) → ¬ IsWrittenForm cursor names) → ⊥
-  no_form cursor None is some none = some is
-  no_form cursor (Some names) is some none = none names is
+  -- a limit and a number are refused, or they stand for one form
+  in_range_once : (limit number : ℕ) (text : List ℕ) → AtMostOne (IsInRange limit number text)
+  in_range_once limit number text (Ok form) (Ok other) p q = let same : Some form ≡ Some other = sym p.1 ∙ q.1 in cc
+  in_range_once limit number text (Ok form) (Err _) (some, is) (inl zero) = absurd (omega (arith, zero, some))
+  in_range_once limit number text (Ok form) (Err _) (some, is) (inr none) = let differ : None ≡ Some form = sym none ∙ is in absurd (cc)
+  in_range_once limit number text (Err _) (Ok form) (inl zero) (some, is) = absurd (omega (arith, zero, some))
+  in_range_once limit number text (Err _) (Ok form) (inr none) (some, is) = let differ : None ≡ Some form = sym none ∙ is in absurd (cc)
+  in_range_once limit number text (Err _) (Err _) p q = refl
 
-  -- a form that is read is one, and it isn't read if it is refused
-  kind_once : (form : Result SecretForm BadFingerprint) (kind other : SecretForm) → form ≡ Ok kind → form ≡ Ok other → kind ≡ other
-  kind_once form kind other is also = let same : form_result (Ok kind) ≡ form_result (Ok other) = sym is ∙ also in cc
-
-  not_refused : (form : Result SecretForm BadFingerprint) (kind : SecretForm) (bad : BadFingerprint) → form ≡ Ok kind → form ≡ Err bad → ⊥
-  not_refused form kind bad is refused = let differ : form_result (Ok kind) ≡ form_result (Err bad) = sym is ∙ refused in cc
-
-  -- a limit and a number are refused, or they aren't
-  in_range : (limit number : ℕ) (text : List ℕ) (form : Result SecretForm BadFingerprint) → (limit ≡ 0) ⊎ (form_of number text ≡ None) → 1 ≤ limit
-      → form_of number text ≡ Some form → ⊥
-  in_range limit number text form (inl zero) some is = omega (arith, zero, some)
-  in_range limit number text form (inr none) some is = let differ : None ≡ Some form = sym none ∙ is in cc
-
-  same_form : (number : ℕ) (text : List ℕ) (form other : Result SecretForm BadFingerprint) → form_of number text ≡ Some form
-      → form_of number text ≡ Some other → form ≡ other
-  same_form number text form other is also = let same : Some form ≡ Some other = sym is ∙ also in cc
-
-  module _ (Given : SecretForm → Option Names → List ℕ → ShamirAnswer → Type 0) (old new other : List ℕ) (answer another : ShamirAnswer)
-      (once : (form : SecretForm) (after : Option Names) → Given form after new answer → Given form after other another
-      → (new ≡ other) × (answer ≡ another)) where
-    in_once : (form : Result SecretForm BadFingerprint) (after : Option Names)
-        → GivesDrillIn (λ kind. Given kind after) form old new answer → GivesDrillIn (λ kind. Given kind after) form old other another
-        → (new ≡ other) × (answer ≡ another)
-    in_once form after (inl (bad, is, says)) (inl (bad', is', says')) = (is ∙ sym is', says ∙ sym says')
-    in_once form after (inl (bad, is, says)) (inr (kind, of, given)) = absurd (not_refused form kind bad.0 of bad.1)
-    in_once form after (inr (kind, of, given)) (inl (bad, is, says)) = absurd (not_refused form kind bad.0 of bad.1)
-    in_once form after (inr (kind, of, given)) (inr (kind', of', given')) =
-        once kind after given (subst (λ (k : SecretForm). Given k after other another) (kind_once form kind' kind of' of) given')
-
-    after_once : (form : Result SecretForm BadFingerprint) (cursor : List ℕ) → GivesDrillAfter Given form cursor old new answer
-        → GivesDrillAfter Given form cursor old other another → (new ≡ other) × (answer ≡ another)
-    after_once form cursor (inl (full, none, is, says)) (inl (full', none', is', says')) = (is ∙ sym is', says ∙ sym says')
-    after_once form cursor (inl (full, none, is, says)) (inr (after, is_cursor, given)) = absurd (no_form cursor after is_cursor full none)
-    after_once form cursor (inr (after, is_cursor, given)) (inl (full, none, is, says)) = absurd (no_form cursor after is_cursor full none)
-    after_once form cursor (inr (after, is_cursor, given)) (inr (after', is_cursor', given')) =
-        in_once form after given
-        (subst (λ (a : Option Names). GivesDrillIn (λ kind. Given kind a) form old other another) (cursor_once cursor after' after is_cursor' is_cursor) given')
-
-    pub drill_once : (cursor : List ℕ) (limit number : ℕ) (text : List ℕ) → GivesDrill Given cursor limit number text old new answer
-        → GivesDrill Given cursor limit number text old other another → (new ≡ other) × (answer ≡ another)
-    drill_once cursor limit number text (inl (none, is, says)) (inl (none', is', says')) = (is ∙ sym is', says ∙ sym says')
-    drill_once cursor limit number text (inl (none, is, says)) (inr (some, form, is_form, given)) =
-        absurd (in_range limit number text form none some is_form)
-    drill_once cursor limit number text (inr (some, form, is_form, given)) (inl (none, is, says)) =
-        absurd (in_range limit number text form none some is_form)
-    drill_once cursor limit number text (inr (some, form, is_form, given)) (inr (some', form', is_form', given')) =
-        after_once form cursor given
-        (subst (λ (f : Result SecretForm BadFingerprint). GivesDrillAfter Given f cursor old other another) (same_form number text form' form is_form' is_form)
-        given')
+  pub drill_once : (Given : SecretForm → Option Names → List ℕ → ShamirAnswer → Type 0) (old : List ℕ)
+      → ((form : SecretForm) (after : Option Names) → Once (Given form after)) → (cursor : List ℕ) (limit number : ℕ) (text : List ℕ)
+      → Once (GivesDrill Given cursor limit number text old)
+  drill_once Given old once cursor limit number text =
+      step_once (IsInRange limit number text) (λ _. out_of_range) _ old (in_range_once limit number text)
+      (λ form _. step_once (IsCursor cursor) (λ _. cursor_refused) _ old (cursor_once cursor)
+      (λ after _. step_once (λ read. form ≡ read) (λ _. fingerprint_refused) _ old (λ x y is also. sym is ∙ also) (λ kind _. once kind after)))

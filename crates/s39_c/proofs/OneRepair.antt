@@ -1,6 +1,6 @@
 -- What `shamir_repair` gives of one line is one answer and one memory, and which slices are too short for it.
-use Rattle.std.proofs.Common.{◌≡◌, ℕ, ◌*◌, ◌+◌, ◌<◌, ◌≤◌, List, [], ◌∷◌, length, length-append, refl, sym, ap, ◌∙◌, subst, inl, inr, arith}
-use Rattle.std.proofs.Common.{Option, Some, None, Result, Ok, Err}
+use Rattle.std.proofs.Common.{◌≡◌, ℕ, ◌*◌, ◌+◌, ◌<◌, ◌≤◌, List, [], ◌∷◌, length, length-append, refl, ap, subst, inl, inr, arith}
+use Rattle.std.proofs.Common.{Option, Some, None}
 use Rattle.std.specs.List.{flat_map, AllZip}
 use Rattle.std.specs.Option.{option_to_list}
 use Rattle.s39_words.specs.declared.share.ShareFields.{ShareFields}
@@ -10,39 +10,26 @@ use Rattle.s39_repair.specs.declared.repaired.Repaired.{Repaired}
 use Rattle.s39_repair.specs.declared.repair_error.RepairError.{RepairError}
 use Rattle.s39_repair.specs.declared.repair_error.RepairError.TheVariants.{UnknownWord}
 use Rattle.s39_repair.specs.Answer.{Repairs, cause_of as repair_cause_of}
+use Rattle.s39_input.proofs.Steps.{AtMostOne}
 use Rattle.s39_input.specs.Input.{ended_line}
 use Rattle.s39_input.specs.Repair.{shares_of}
 use Rattle.s39_input.proofs.Runs.PrintedLines.{text_once}
-use Rattle.s39_c.specs.declared.answer.ShamirAnswer.{ShamirAnswer}
 use Rattle.s39_c.specs.Answers.{GivesAs, created, repair_refused, too_short}
 use Rattle.s39_c.specs.Repairing.{longest_repaired, GivesLines, GivesRepaired}
-use Rattle.s39_c.proofs.OneAnswer.{gives_as_once}
+use Rattle.s39_c.proofs.InSteps.{Once, gives_as_once, step_once}
 use Rattle.s39_c.proofs.Rooms.{no_other, no_refusal}
 
-module _ (one_answer : (line : List ℕ) (answer other : Result Repaired RepairError) → Repairs line answer → Repairs line other → answer ≡ other)
+module _ (one_answer : (line : List ℕ) → AtMostOne (Repairs line))
     (one_printed_form : (share : ShareFields) (text other : List ℕ) → IsPrinted text share → IsPrinted other share → text ≡ other) where
-  lines_once : (repaired : Repaired) (old new other : List ℕ) (answer another : ShamirAnswer) → GivesLines repaired old new answer
-      → GivesLines repaired old other another → (new ≡ other) × (answer ≡ another)
+  lines_once : (repaired : Repaired) (old : List ℕ) → Once (GivesLines repaired old)
   lines_once repaired old new other answer another (text, are, gives) (text', are', gives') =
       let shares = shares_of repaired in
       let same = text_once one_printed_form shares text' text are' are in
       gives_as_once (created (length text) (length shares)) text old new other answer another gives
       (subst (λ t. GivesAs (created (length t) (length shares)) t old other another) same gives')
 
-  pub repair_once : (line old new other : List ℕ) (answer another : ShamirAnswer) → GivesRepaired line old new answer
-      → GivesRepaired line old other another → (new ≡ other) × (answer ≡ another)
-  repair_once line old new other answer another (inl (repaired, is, gives)) (inl (repaired', is', gives')) =
-      let both : Ok repaired' ≡ Ok repaired = one_answer line (Ok repaired') (Ok repaired) is' is in
-      let same : repaired' ≡ repaired = cc in
-      lines_once repaired old new other answer another gives (subst (λ r. GivesLines r old other another) same gives')
-  repair_once line old new other answer another (inl (repaired, is, gives)) (inr (error, is', same, says)) =
-      let both : Ok repaired ≡ Err error = one_answer line (Ok repaired) (Err error) is is' in absurd cc
-  repair_once line old new other answer another (inr (error, is, same, says)) (inl (repaired, is', gives)) =
-      let both : Ok repaired ≡ Err error = one_answer line (Ok repaired) (Err error) is' is in absurd cc
-  repair_once line old new other answer another (inr (error, is, same, says)) (inr (error', is', same', says')) =
-      let both : Err error ≡ Err error' = one_answer line (Err error) (Err error') is is' in
-      let errors : error ≡ error' = cc in
-      (same ∙ sym same', says ∙ ap repair_refused errors ∙ sym says')
+  pub repair_once : (line old : List ℕ) → Once (GivesRepaired line old)
+  repair_once line old = step_once (Repairs line) repair_refused _ old (one_answer line) (λ repaired _. lines_once repaired old)
 
 -- ---- how many bytes they are
 
@@ -69,9 +56,9 @@ module _ (short : (share : ShareFields) (text : List ℕ) → IsPrinted text sha
       )
 
   pub repair_fits : (line old new : List ℕ) (needed : ℕ) → GivesRepaired line old new (too_short needed) → length old < longest_repaired
-  repair_fits line old new needed (inl (repaired, is, (text, printed, inl (fits, same, says)))) =
+  repair_fits line old new needed (inr (repaired, is, (text, printed, inl (fits, same, says)))) =
       let code : 0 ≡ 1 = no_other needed _ says in absurd (omega (arith, code))
-  repair_fits line old new needed (inl (repaired, is, (text, printed, inr (less, same, says)))) =
+  repair_fits line old new needed (inr (repaired, is, (text, printed, inr (less, same, says)))) =
       omega (
         arith,
         less,
@@ -79,4 +66,4 @@ module _ (short : (share : ShareFields) (text : List ℕ) → IsPrinted text sha
         lines_short printed.lines (shares_of repaired) printed.printed,
         two_at_most repaired repaired.second refl,
       )
-  repair_fits line old new needed (inr (error, is, same, says)) = absurd (no_refusal needed (repair_cause_of error) 0 (above-repair error) says)
+  repair_fits line old new needed (inl (error, is, same, says)) = absurd (no_refusal needed (repair_cause_of error) 0 (above-repair error) says)

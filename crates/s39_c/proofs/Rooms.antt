@@ -1,5 +1,5 @@
 -- Which slices are too short for a call.
-use Rattle.std.proofs.Common.{◌≡◌, ℕ, ◌*◌, ◌<◌, ◌≤◌, List, length, codes, ap, ◌∙◌, inl, inr, arith, Option, Result, Ok, Err}
+use Rattle.std.proofs.Common.{◌≡◌, ℕ, ◌*◌, ◌<◌, ◌≤◌, List, length, codes, ap, ◌∙◌, refl, inl, inr, arith, Option, Result, Ok, Err}
 use Rattle.s39_refusal.specs.declared.cause.Cause.{Cause}
 use Rattle.std.proofs.lemmas.List.{length-take-le}
 use Rattle.hex.specs.Hex.{lower_digits, encode_lower}
@@ -27,7 +27,6 @@ use Rattle.s39_backup.specs.declared.plan_error.PlanError.TheVariants.{BadPlan}
 use Rattle.s39_backup.specs.Created.{Asked}
 use Rattle.s39_backup.specs.Plan.{plan_cause_of}
 use Rattle.s39_backup.specs.RecoverError.{mismatch_cause_of}
-use Rattle.s39_kdf.specs.declared.noted.BadFingerprint.{BadFingerprint}
 use Rattle.s39_kdf.specs.declared.secret_form.SecretForm.{SecretForm}
 use Rattle.s39_repair.specs.declared.repair_error.RepairError.{RepairError}
 use Rattle.s39_repair.specs.declared.repair_error.RepairError.TheVariants.{NoMnemonic}
@@ -43,7 +42,7 @@ use Rattle.s39_input.specs.declared.fault.Refusal.TheVariants.{Line, Lack, Diges
 use Rattle.s39_input.specs.Create.{IsCreateOutput}
 use Rattle.s39_drilling.specs.Drill.{IsDrillOutput}
 use Rattle.s39_input.specs.Fault.{cause_of, line_cause_of, device_cause_of}
-use Rattle.s39_input.specs.Input.{Input, whole}
+use Rattle.s39_input.specs.Input.{Input, lines_in, whole}
 use Rattle.s39_drilling.specs.Lengths.{longest_listing}
 use Rattle.s39_creating.specs.Lengths.{longest_backup}
 use Rattle.s39_reading.specs.Lengths.{longest_status}
@@ -51,14 +50,14 @@ use Rattle.s39_creating.specs.Reissue.{IsReissueOutput}
 use Rattle.s39_creating.specs.Resplit.{IsResplitOutput}
 use Rattle.s39_reading.specs.Status.{IsStatusOutput}
 use Rattle.s39_c.specs.declared.answer.ShamirAnswer.{ShamirAnswer}
-use Rattle.s39_c.specs.Answers.{Gives, done, too_short, refusal, refused}
-use Rattle.s39_c.specs.Creating.{Wanted, GivesMnemonics, GivesBackup}
+use Rattle.s39_c.specs.Answers.{Gives, GivesOutputAs, created, done, too_short, refusal, refused}
+use Rattle.s39_c.specs.Creating.{Wanted, GivesBackup}
 use Rattle.s39_c.specs.Drilling.{GivesListing, GivesDrill}
 use Rattle.s39_c.specs.Exponents.{IsUpTo, GivesUpTo}
 use Rattle.s39_c.proofs.MostExponents.{refused_up_to}
 use Rattle.s39_input.specs.Steps.{gives as goes_on, refuses}
 use Rattle.s39_c.specs.Fingerprinting.{GivesFingerprint}
-use Rattle.s39_c.specs.Reissuing.{GivesNamed, GivesReissued}
+use Rattle.s39_c.specs.Reissuing.{GivesReissued}
 use Rattle.s39_c.specs.Resplitting.{GivesSplit}
 use Rattle.s39_c.specs.Status.{GivesStatus}
 use Rattle.s39_c.specs.Telling.{longest_text, GivesText}
@@ -143,29 +142,34 @@ module _ (short : (form : SecretForm) (passphrase : List ℕ) (after : Option Na
   up_to_fits : (most : ℕ) (form : SecretForm) (after : Option Names)
       → GivesUpTo most passphrase lines (GivesListing (λ n. IsDrillOutput form passphrase after n (whole lines)) limit old) old new (too_short needed)
       → length old < longest_listing
-  up_to_fits most form after (goes_on set is lists) = listing_fits form after lists
-  up_to_fits most form after (refuses refusal is at) = absurd (not_short most passphrase lines needed refusal is (ap (λ (given : List ℕ × ShamirAnswer). given.1) at))
+  up_to_fits most form after (inr (set, is, lists)) = listing_fits form after lists
+  up_to_fits most form after (inl (refusal, is, same, says)) = absurd (not_short most passphrase lines needed refusal is says)
 
   pub drill_fits : (most : ℕ) → GivesDrill (λ form names. GivesUpTo most passphrase lines
       (GivesListing (λ n. IsDrillOutput form passphrase names n (whole lines)) limit old) old)
       cursor limit number digits old new (too_short needed) → length old < longest_listing
-  drill_fits most (inl (none, same, says)) = let code : 2 ≡ 1 = no_other needed _ says in absurd (omega (arith, code))
-  drill_fits most (inr (some, form, is, inl (given, no_names, same, says))) = let code : 61 ≡ 1 = no_other needed _ says in absurd (omega (arith, code))
-  drill_fits most (inr (some, form, is, inr (after, names, inl (bad, same, says)))) =
+  drill_fits most (inl (none, range, same, says)) = let code : 2 ≡ 1 = no_other needed _ says in absurd (omega (arith, code))
+  drill_fits most (inr (form, is, inl (bad, none, same, says))) = let code : 61 ≡ 1 = no_other needed _ says in absurd (omega (arith, code))
+  drill_fits most (inr (form, is, inr (after, names, inl (bad, none, same, says)))) =
       let code : 44 ≡ 1 = no_other needed _ says in absurd (omega (arith, code))
-  drill_fits most (inr (some, form, is, inr (after, names, inr (kind, read, lists)))) = up_to_fits most kind after lists
+  drill_fits most (inr (form, is, inr (after, names, inr (kind, read, lists)))) = up_to_fits most kind after lists
 
-module _ (short : (asked : Asked) (input : Input) (text : List ℕ) → IsCreateOutput asked input text (Ok tt) → length text ≤ longest_backup)
-    (random old new : List ℕ) (needed : ℕ) where
-  mnemonics_fit : (asked : Asked) → GivesMnemonics asked random old new (too_short needed) → length old < longest_backup
-  mnemonics_fit asked (inl (text, output, inl (fits, is, says))) = let code : 0 ≡ 1 = no_other needed _ says in absurd (omega (arith, code))
-  mnemonics_fit asked (inl (text, output, inr (less, same, says))) = omega (arith, less, short asked (whole random) text output)
-  mnemonics_fit asked (inr (fault, output, same, says)) = absurd (no_fault needed fault says)
+-- what a command writes is no longer than this
+module _ (success : List ℕ → ShamirAnswer) (IsOutput : List ℕ → Result (Unit {0}) Fault → Type 0) (most : ℕ)
+    (short : (text : List ℕ) → IsOutput text (Ok tt) → length text ≤ most) (zero : (text : List ℕ) → (success text).code ≡ 0) (old new : List ℕ) (needed : ℕ) where
+  output_fits : GivesOutputAs success IsOutput old new (too_short needed) → length old < most
+  output_fits (inl (fault, output, same, says)) = absurd (no_fault needed fault says)
+  output_fits (inr (text, output, inl (fits, is, says))) = absurd (omega (arith, no_other needed (success text) says, zero text))
+  output_fits (inr (text, output, inr (less, same, says))) = omega (arith, less, short text output)
 
+module _ (random old new : List ℕ) (needed : ℕ) (short : (asked : Asked) (input : Input) (text : List ℕ) → IsCreateOutput asked input text (Ok tt)
+    → length text ≤ longest_backup) where
   pub backup_fits : (wanted : Wanted) → GivesBackup wanted random old new (too_short needed) → length old < longest_backup
-  backup_fits wanted (inl (high, same, says)) = let code : 2 ≡ 1 = no_other needed _ says in absurd (omega (arith, code))
-  backup_fits wanted (inr (inl (low, error, reads, same, says))) = absurd (no_refusal needed (plan_cause_of error) 0 (above-plan error) says)
-  backup_fits wanted (inr (inr (low, asked, asks, gives))) = mnemonics_fit asked gives
+  backup_fits wanted (inl (high, range, same, says)) = let code : 2 ≡ 1 = no_other needed _ says in absurd (omega (arith, code))
+  backup_fits wanted (inr (low, range, inl (error, reads, same, says))) = absurd (no_refusal needed (plan_cause_of error) 0 (above-plan error) says)
+  backup_fits wanted (inr (low, range, inr (asked, asks, gives))) =
+      output_fits (λ text. created (length text) (lines_in text)) (IsCreateOutput asked (whole random)) longest_backup (short asked (whole random))
+      (λ text. refl) old new needed gives
 
 -- ---- bytes
 
@@ -195,9 +199,9 @@ fingerprint_fits secret old new needed (inr (right, inr (less, same, says))) =
 module _ (short : (input : Input) (text : List ℕ) (status : Status) → IsStatusOutput input text (Ok status) → length text ≤ longest_status)
     (lines old new : List ℕ) (needed : ℕ) where
   pub status_fits : GivesStatus (IsStatusOutput (whole lines)) old new (too_short needed) → length old < longest_status
-  status_fits (inl (text, status, output, front, says)) = let code : 0 ≡ 1 = no_other needed _ says in absurd (omega (arith, code))
-  status_fits (inr (inl (text, status, output, less, same, says))) = omega (arith, less, short (whole lines) text status output)
-  status_fits (inr (inr (fault, output, same, says))) = absurd (no_fault needed fault says)
+  status_fits (inl (fault, output, same, says)) = absurd (no_fault needed fault says)
+  status_fits (inr (written, output, inl (fits, is, says))) = let code : 0 ≡ 1 = no_other needed _ says in absurd (omega (arith, code))
+  status_fits (inr (written, output, inr (less, same, says))) = omega (arith, less, short (whole lines) written.0 written.1 output)
 
 module _ (short : (group_threshold : ℕ) (groups : List Members) (names : Names) (input : Input) (text : List ℕ) → AreNames names
     → IsReissueOutput group_threshold groups names input text (Ok tt) → length text ≤ longest_backup)
@@ -205,18 +209,12 @@ module _ (short : (group_threshold : ℕ) (groups : List Members) (names : Names
   abbrev Is : ℕ → List Members → Names → List ℕ → Result (Unit {0}) Fault → Type 0
   Is threshold groups names = IsReissueOutput threshold groups names (whole lines)
 
-  named_fits : (threshold : ℕ) (groups : List Members) → GivesNamed (Is threshold groups) listed old new (too_short needed)
-      → length old < longest_backup
-  named_fits threshold groups (inl (none, same, says)) = let code : names_cause.code ≡ 1 = no_other needed _ says in absurd (omega (arith, code))
-  named_fits threshold groups (inr (names, form, inl (text, output, inl (fits, is, says)))) =
-      let code : 0 ≡ 1 = no_other needed _ says in absurd (omega (arith, code))
-  named_fits threshold groups (inr (names, form, inl (text, output, inr (less, same, says)))) =
-      omega (arith, less, short threshold groups names (whole lines) text form.are_names output)
-  named_fits threshold groups (inr (names, form, inr (fault, output, same, says))) = absurd (no_fault needed fault says)
-
   pub reissue_fits : GivesReissued Is plan listed old new (too_short needed) → length old < longest_backup
   reissue_fits (inl (error, reads, same, says)) = absurd (no_refusal needed (plan_cause_of error) 0 (above-plan error) says)
-  reissue_fits (inr (threshold, groups, reads, gives)) = named_fits threshold groups gives
+  reissue_fits (inr (read, is, inl (bad, none, same, says))) = let code : names_cause.code ≡ 1 = no_other needed _ says in absurd (omega (arith, code))
+  reissue_fits (inr (read, is, inr (names, form, gives))) =
+      output_fits (λ text. done (length text)) (Is read.0 read.1 names) longest_backup
+      (λ text. short read.0 read.1 names (whole lines) text form.are_names) (λ text. refl) old new needed gives
 
 module _ (short : (group_threshold : ℕ) (groups : List Members) (random : List ℕ) (input : Input) (text : List ℕ)
     → IsResplitOutput group_threshold groups random input text (Ok tt) → length text ≤ longest_backup)
@@ -224,11 +222,9 @@ module _ (short : (group_threshold : ℕ) (groups : List Members) (random : List
   pub split_fits : GivesSplit (λ threshold groups. IsResplitOutput threshold groups random (whole lines)) plan old new (too_short needed)
       → length old < longest_backup
   split_fits (inl (error, reads, same, says)) = absurd (no_refusal needed (plan_cause_of error) 0 (above-plan error) says)
-  split_fits (inr (threshold, groups, reads, inl (text, output, inl (fits, is, says)))) =
-      let code : 0 ≡ 1 = no_other needed _ says in absurd (omega (arith, code))
-  split_fits (inr (threshold, groups, reads, inl (text, output, inr (less, same, says)))) =
-      omega (arith, less, short threshold groups random (whole lines) text output)
-  split_fits (inr (threshold, groups, reads, inr (fault, output, same, says))) = absurd (no_fault needed fault says)
+  split_fits (inr (read, is, gives)) =
+      output_fits (λ text. created (length text) (lines_in text)) (IsResplitOutput read.0 read.1 random (whole lines)) longest_backup
+      (short read.0 read.1 random (whole lines)) (λ text. refl) old new needed gives
 
 -- ---- the text of an answer
 

@@ -107,12 +107,21 @@ GivesAs success bytes old new answer =
 abbrev pub Gives : List ℕ → List ℕ → List ℕ → ShamirAnswer → Type 0
 Gives bytes old new answer = GivesAs (done (length bytes)) bytes old new answer
 
--- What a command with these outputs writes, with this answer for each text, or the refusal that it answers, and then the slice is
--- as it was.
+-- The first step is refused, the answer is this refusal, and the slice is as it was. Or the step gives something, and the next one goes
+-- on with it.
+abbrev pub Step : {A E : Type 0} → (Result A E → Type 0) → (E → ShamirAnswer) → (A → List ℕ → ShamirAnswer → Type 0) → List ℕ → List ℕ
+    → ShamirAnswer → Type 0
+Step {A} {E} First refusal Next old new answer =
+    ((e : E) × First (Err e) × (new ≡ old) × (answer ≡ refusal e)) ⊎ ((a : A) × First (Ok a) × Next a new answer)
+
+-- a command with these outputs writes this text, or it is refused and writes nothing
+abbrev pub Writes : (List ℕ → Result (Unit {0}) Fault → Type 0) → Result (List ℕ) Fault → Type 0
+Writes IsOutput (Ok text) = IsOutput text (Ok tt)
+Writes IsOutput (Err fault) = IsOutput [] (Err fault)
+
+-- what a command with these outputs writes, with this answer for each text
 abbrev pub GivesOutputAs : (List ℕ → ShamirAnswer) → (List ℕ → Result (Unit {0}) Fault → Type 0) → List ℕ → List ℕ → ShamirAnswer → Type 0
-GivesOutputAs success IsOutput old new answer =
-    ((text : List ℕ) × IsOutput text (Ok tt) × GivesAs (success text) text old new answer)
-    ⊎ ((fault : Fault) × IsOutput [] (Err fault) × (new ≡ old) × (answer ≡ refused fault))
+GivesOutputAs success IsOutput old = Step (Writes IsOutput) refused (λ text. GivesAs (success text) text old) old
 
 -- the same, where the answer says how many bytes the text has
 abbrev pub GivesOutput : (List ℕ → Result (Unit {0}) Fault → Type 0) → List ℕ → List ℕ → ShamirAnswer → Type 0

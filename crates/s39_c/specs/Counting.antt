@@ -1,5 +1,5 @@
 -- What `shamir_quorums` gives.
-use Rattle.std.specs.Prelude.{ℕ, ◌-◌, ◌^◌, min, List, [], ◌∷◌, Result, Ok, Err}
+use Rattle.std.specs.Prelude.{◌-◌, ◌^◌, min, List, [], ◌∷◌, Result, Ok, Err}
 use Rattle.s39_words.specs.declared.ShareFields.{ShareFields}
 use Rattle.s39_set.specs.Counting.{quorum_count}
 use Rattle.s39_set.specs.declared.set_lack.SetLack.TheVariants.{NoShares}

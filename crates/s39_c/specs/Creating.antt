@@ -1,5 +1,5 @@
 -- What `shamir_create` and `shamir_random_needed` give.
-use Rattle.std.specs.Prelude.{◌≡◌, ◌≢◌, ◌⊎◌, ℕ, ◌<◌, ◌≤◌, ◌^◌, List, length, true, ◌↔◌, Ok, Err}
+use Rattle.std.specs.Prelude.{◌≡◌, ◌≢◌, ◌⊎◌, ℕ, ◌<◌, ◌≤◌, ◌^◌, List, length, true, ◌↔◌, Result, Ok, Err}
 use Rattle.s39_kdf.specs.Limits.{exponent_bits, IsSecretLength}
 use Rattle.s39_backup.specs.declared.plan.Members.{Members}
 use Rattle.s39_backup.specs.declared.plan_error.PlanError.{PlanError}
@@ -8,13 +8,12 @@ use Rattle.s39_backup.specs.Created.{random_needed, Asked}
 use Rattle.s39_input.specs.Input.{lines_in, whole}
 use Rattle.s39_input.specs.Create.{IsCreateOutput}
 use Rattle.s39_c.specs.declared.answer.ShamirAnswer.{ShamirAnswer}
-use Rattle.s39_c.specs.Answers.{GivesOutputAs, created, number, out_of_range, plan_refused, length_refused}
+use Rattle.s39_c.specs.Answers.{Step, GivesOutputAs, created, number, out_of_range, plan_refused, length_refused}
 
 -- The mnemonics that the command `create` writes for these random bytes, with their number in the answer; or the refusal that
 -- it answers, and then the slice is as it was.
 abbrev pub GivesMnemonics : Asked → List ℕ → List ℕ → List ℕ → ShamirAnswer → Type 0
-GivesMnemonics asked random old new answer =
-    GivesOutputAs (λ text. created (length text) (lines_in text)) (IsCreateOutput asked (whole random)) old new answer
+GivesMnemonics asked random = GivesOutputAs (λ text. created (length text) (lines_in text)) (IsCreateOutput asked (whole random))
 
 -- what a call is given
 pub record Wanted : Type 0 where
@@ -32,12 +31,21 @@ pub record Asks (wanted : Wanted) (asked : Asked) : Type 0 where
   pub exponent : asked.options.exponent ≡ wanted.exponent
   pub extendable : (asked.options.extendable ≡ true) ↔ (wanted.extendable ≢ 0)
 
+-- the exponent is one that a backup can have
+abbrev pub IsExponentInRange : ℕ → Result (Unit {0}) (Unit {0}) → Type 0
+IsExponentInRange exponent (Ok _) = exponent < 2 ^ exponent_bits
+IsExponentInRange exponent (Err _) = 2 ^ exponent_bits ≤ exponent
+
+-- what is asked for, or that the text is no plan
+abbrev pub IsAsked : Wanted → Result Asked PlanError → Type 0
+IsAsked wanted (Ok asked) = Asks wanted asked
+IsAsked wanted (Err error) = IsPlanReading wanted.plan (Err error)
+
 -- The first that applies: an exponent above 15; a text that is no plan; and then what that plan gives.
 abbrev pub GivesBackup : Wanted → List ℕ → List ℕ → List ℕ → ShamirAnswer → Type 0
-GivesBackup wanted random old new answer =
-    ((2 ^ exponent_bits ≤ wanted.exponent) × (new ≡ old) × (answer ≡ out_of_range))
-    ⊎ ((wanted.exponent < 2 ^ exponent_bits) × (error : PlanError) × IsPlanReading wanted.plan (Err error) × (new ≡ old) × (answer ≡ plan_refused error))
-    ⊎ ((wanted.exponent < 2 ^ exponent_bits) × (asked : Asked) × Asks wanted asked × GivesMnemonics asked random old new answer)
+GivesBackup wanted random old =
+    Step (IsExponentInRange wanted.exponent) (λ _. out_of_range) (λ _.
+    Step (IsAsked wanted) plan_refused (λ asked. GivesMnemonics asked random old) old) old
 
 -- how many random bytes a plan's text takes for a secret of n bytes, or the refusal of the text, or of the length
 abbrev pub GivesNumber : List ℕ → ℕ → ShamirAnswer → Type 0

@@ -6,7 +6,7 @@ use Rattle.s39_input.specs.Accepted.{IsCheckedSet}
 use Rattle.s39_input.specs.Steps.{Then}
 use Rattle.s39_reading.specs.Exponent.{IsExponent}
 use Rattle.s39_c.specs.declared.answer.ShamirAnswer.{ShamirAnswer}
-use Rattle.s39_c.specs.Answers.{high_exponent, refused}
+use Rattle.s39_c.specs.Answers.{Step, high_exponent, refused}
 
 -- a set with this exponent, or the refusal of the exponent if it is above the maximum
 abbrev pub up_to : ℕ → ℕ → List ShareFields → Result (List ShareFields) ShamirAnswer
@@ -21,5 +21,4 @@ IsUpTo most passphrase lines =
 
 -- What a call leaves in a slice, and answers. If the lines are refused, the slice is as it was. Otherwise the call gives this.
 abbrev pub GivesUpTo : ℕ → List ℕ → List ℕ → (List ℕ → ShamirAnswer → Type 0) → List ℕ → List ℕ → ShamirAnswer → Type 0
-GivesUpTo most passphrase lines Given old new answer =
-    Then (IsUpTo most passphrase lines) (λ refusal. (old, refusal)) (λ _ (given : List ℕ × ShamirAnswer). Given given.0 given.1) (new, answer)
+GivesUpTo most passphrase lines Given old = Step (IsUpTo most passphrase lines) (λ refusal. refusal) (λ _. Given) old

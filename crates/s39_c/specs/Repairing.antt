@@ -1,13 +1,12 @@
 -- What `shamir_repair` gives.
-use Rattle.std.specs.Prelude.{◌≡◌, ◌⊎◌, ℕ, ◌*◌, ◌+◌, List, length, Ok, Err}
+use Rattle.std.specs.Prelude.{ℕ, ◌*◌, ◌+◌, List, length}
 use Rattle.s39_words.specs.Layout.{longest_text}
 use Rattle.s39_repair.specs.declared.repaired.Repaired.{Repaired}
-use Rattle.s39_repair.specs.declared.repair_error.RepairError.{RepairError}
 use Rattle.s39_repair.specs.Answer.{Repairs}
 use Rattle.s39_input.specs.Create.{ArePrintedLines}
 use Rattle.s39_input.specs.Repair.{shares_of}
 use Rattle.s39_c.specs.declared.answer.ShamirAnswer.{ShamirAnswer}
-use Rattle.s39_c.specs.Answers.{GivesAs, created, repair_refused}
+use Rattle.s39_c.specs.Answers.{Step, GivesAs, created, repair_refused}
 
 -- the most bytes of such a text: those of two mnemonics, each with its line feed
 abbrev pub longest_repaired : ℕ
@@ -20,6 +19,4 @@ GivesLines repaired old new answer =
 
 -- The mnemonics that fit a line of marks, in order; or the first cause for which none is given, and then the slice is as it was.
 abbrev pub GivesRepaired : List ℕ → List ℕ → List ℕ → ShamirAnswer → Type 0
-GivesRepaired line old new answer =
-    ((repaired : Repaired) × Repairs line (Ok repaired) × GivesLines repaired old new answer)
-    ⊎ ((error : RepairError) × Repairs line (Err error) × (new ≡ old) × (answer ≡ repair_refused error))
+GivesRepaired line old = Step (Repairs line) repair_refused (λ repaired. GivesLines repaired old) old

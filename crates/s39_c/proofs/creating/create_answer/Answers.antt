@@ -19,4 +19,4 @@ returns-in-Ok c =
       exponent = c.in-Some.ensures.exponent;
       extendable = c.in-Some.ensures.extendable;
     } in
-    inr (inr (c.in-Some.ensures.some, asked, asks, c.create_by.ensures))
+    inr (tt, c.in-Some.ensures.some, inr (asked, asks, c.create_by.ensures))

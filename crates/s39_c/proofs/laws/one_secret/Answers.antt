@@ -8,9 +8,9 @@ use Rattle.s39_c.proofs.MostExponents.{one_up_to, up_to_once}
 use Rattle.s39_c.proofs.laws.one_secret.Goals as goal
 
 pub returns : goal.returns
-returns c = λ most passphrase lines digits old new other answer another.
+returns c = λ most passphrase lines digits old.
     expected_secret_once (λ noted. GivesUpTo most passphrase lines (GivesSecret (IsRecoverOutput Digits noted passphrase (whole lines)) old) old)
-    digits old new other answer another (λ noted.
-    up_to_once most passphrase lines (GivesSecret (IsRecoverOutput Digits noted passphrase (whole lines)) old)
-    (one_up_to most passphrase lines c.one_checked_set.ensures c.one_exponent.ensures.once) old new other answer another
-    (secret_once (c.one_recover_output.ensures Digits) noted passphrase lines old new other answer another))
+    (λ noted. up_to_once most passphrase lines (GivesSecret (IsRecoverOutput Digits noted passphrase (whole lines)) old)
+    (one_up_to most passphrase lines c.one_checked_set.ensures c.one_exponent.ensures.once)
+    (secret_once (IsRecoverOutput Digits noted passphrase (whole lines)) (c.one_recover_output.ensures Digits noted passphrase (whole lines)) old) old)
+    digits old

@@ -1,5 +1,5 @@
-use Rattle.s39_c.proofs.OneSplit.{split_once}
+use Rattle.s39_c.proofs.OneAnswer.{split_once}
 use Rattle.s39_c.proofs.laws.one_split.Goals as goal
 
 pub returns : goal.returns
-returns c = λ plan lines random. split_once c.one_plan_reading.ensures c.one_resplit_output.ensures.once plan lines random
+returns c = split_once c.one_plan_reading.ensures c.one_resplit_output.ensures.once

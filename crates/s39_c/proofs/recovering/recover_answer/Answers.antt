@@ -1,4 +1,4 @@
-use Rattle.std.proofs.Common.{◌≡◌, [], inr, length, None, Some, ap, sym, arith}
+use Rattle.std.proofs.Common.{◌≡◌, [], inr, length, None, Some, Ok, ap, sym, arith}
 use Rattle.std.proofs.lemmas.List.{nil_from_length}
 use Rattle.s39_backup.proofs.Combined.{none_from_test, some_from_test}
 use Rattle.s39_c.specs.Recovering.{IsExpected}
@@ -13,6 +13,6 @@ returns-then-is_empty c =
 pub returns-in-Ok : goal.returns-in-Ok
 returns-in-Ok c =
     let some = some_from_test c.is_empty.result (length c.args.expected.now) c.is_empty.ensures c.if-is_empty.false in
-    let is : IsExpected c.args.expected.now (Some c.in-Ok.noted) =
+    let is : IsExpected c.args.expected.now (Ok (Some c.in-Ok.noted)) =
     (λ none. let same = ap length none in absurd (omega (arith, some, same)), sym c.in-Ok.ensures) in
     inr (Some c.in-Ok.noted, is, c.recover_expected-in-Ok.ensures)

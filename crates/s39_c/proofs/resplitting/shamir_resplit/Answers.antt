@@ -1,6 +1,6 @@
 use Rattle.s39_input.specs.Input.{whole}
 use Rattle.s39_creating.specs.Resplit.{IsResplitOutput, ResplitsCreated}
-use Rattle.s39_c.proofs.OneSplit.{split_weaker}
+use Rattle.s39_c.proofs.Outputs.{split_weaker}
 use Rattle.s39_c.proofs.resplitting.shamir_resplit.Goals as goal
 
 pub returns-clause-created : goal.returns-clause-created
