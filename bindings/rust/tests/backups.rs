@@ -346,6 +346,22 @@ fn mnemonics_are_collected_from_lines() {
     assert_eq!(format!("{lines:?}"), "Mnemonics(2)");
 }
 
+/// As the packages for Python and JavaScript do, the crate refuses an item that would be several lines.
+#[test]
+fn an_item_is_one_line() {
+    for (items, line) in [
+        (vec![TWO.join("\n")], 1),
+        (vec![TWO[0].into(), format!("{}\n\n", TWO[1])], 2),
+        (vec![TWO[0].into(), TWO[1].into(), format!("# a note\n{ONE}\n")], 3),
+        (vec!["\n\n".into()], 1),
+    ] {
+        let lines: Mnemonics = items.iter().collect();
+        let refused = Error::UnknownWord { line: Some(line), position: 1 };
+        assert_eq!((lines.len(), recover(&lines, &trezor()).unwrap_err()), (items.len(), refused));
+        assert_eq!(status(&lines).unwrap_err(), refused);
+    }
+}
+
 #[test]
 fn words_begin_with_letters() {
     assert_eq!(words("EM"), ["email", "emerald", "emission", "emperor", "emphasis", "employer", "empty"]);
