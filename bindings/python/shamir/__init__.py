@@ -547,7 +547,8 @@ def recover(
     even if it is a comment. A line of an iterable may end with a line feed; another line feed in it raises ValueError.
 
     `expect` is the fingerprint that the secret should have: eight hexadecimal digits, in lower or upper case. An empty one is
-    refused (44), and a secret with another fingerprint too (52). If `expect` is None, a wrong passphrase isn't detected: it gives another secret.
+    refused (44), and a secret with another fingerprint too (52). If `expect` is None, a wrong passphrase isn't detected: it
+    gives another secret.
 
     The exponent of the mnemonics determines how long the call takes: 10,000 * 2^exponent iterations of PBKDF2, and
     twice as many for a secret of more than 64 bytes. With the exponent 15 these take minutes. If the mnemonics have a
