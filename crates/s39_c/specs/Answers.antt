@@ -107,6 +107,10 @@ GivesAs success bytes old new answer =
 abbrev pub Gives : List ℕ → List ℕ → List ℕ → ShamirAnswer → Type 0
 Gives bytes old new answer = GivesAs (done (length bytes)) bytes old new answer
 
+-- what a struct has: this if the bytes fit into a slice, and otherwise what it had
+abbrev pub HasIfFit : {T : Type 0} → List ℕ → List ℕ → T → T → T → Type 0
+HasIfFit bytes room this old new = (length bytes ≤ length room → new ≡ this) × (length room < length bytes → new ≡ old)
+
 -- What a command with these outputs writes, with this answer for each text, or the refusal that it answers, and then the slice is
 -- as it was.
 abbrev pub GivesOutputAs : (List ℕ → ShamirAnswer) → (List ℕ → Result (Unit {0}) Fault → Type 0) → List ℕ → List ℕ → ShamirAnswer → Type 0

@@ -4,6 +4,7 @@ pub mod Creating
 pub mod Exponents
 pub mod Fingerprinting
 pub mod Recovering
+pub mod Encrypted
 pub mod Drilling
 pub mod Reissuing
 pub mod Resplitting

@@ -1,12 +1,12 @@
 -- What `shamir_parse` gives.
-use Rattle.std.specs.Prelude.{◌≡◌, ◌⊎◌, ℕ, ◌<◌, ◌≤◌, List, length, Ok, Err}
+use Rattle.std.specs.Prelude.{◌≡◌, ◌⊎◌, ℕ, List, Ok, Err}
 use Rattle.s39_words.specs.declared.ShareFields.{ShareFields}
 use Rattle.s39_words.specs.declared.word_error.WordError.{WordError}
 use Rattle.s39_words.specs.Share.{flag_bit}
 use Rattle.s39_words.specs.Reading.{Reads}
 use Rattle.s39_c.specs.declared.answer.ShamirAnswer.{ShamirAnswer}
 use Rattle.s39_c.specs.declared.parsing.ShamirShare.{ShamirShare}
-use Rattle.s39_c.specs.Answers.{Gives, word_refused}
+use Rattle.s39_c.specs.Answers.{Gives, HasIfFit, word_refused}
 
 -- the fields of a share but its value
 abbrev pub header_of : ShareFields → ShamirShare
@@ -21,13 +21,8 @@ header_of f = record {
   member_threshold = f.member_threshold;
 }
 
--- the header of a share that is read if its value fits, and otherwise the one that was there
-abbrev pub HasHeader : ShareFields → List ℕ → ShamirShare → ShamirShare → Type 0
-HasHeader fields room old new =
-    (length fields.value.items ≤ length room → new ≡ header_of fields) × (length room < length fields.value.items → new ≡ old)
-
 -- The share that a line is read as, its value in a slice; or the first cause for which it is none, and nothing changes.
 abbrev pub GivesShare : List ℕ → ShamirShare → ShamirShare → List ℕ → List ℕ → ShamirAnswer → Type 0
 GivesShare line header header' old new answer =
-    ((fields : ShareFields) × Reads line (Ok fields) × HasHeader fields old header header' × Gives fields.value.items old new answer)
+    ((fields : ShareFields) × Reads line (Ok fields) × HasIfFit fields.value.items old (header_of fields) header header' × Gives fields.value.items old new answer)
     ⊎ ((error : WordError) × Reads line (Err error) × (header' ≡ header) × (new ≡ old) × (answer ≡ word_refused error))

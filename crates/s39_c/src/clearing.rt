@@ -17,6 +17,10 @@ pub(crate) const STATUS: usize = 224 * KIB;
 
 pub(crate) const QUORUMS: usize = 224 * KIB;
 
+pub(crate) const ENCRYPTED: usize = 256 * KIB;
+
+pub(crate) const DECRYPT: usize = 16 * KIB;
+
 pub(crate) const RESPLIT: usize = 256 * KIB;
 
 pub(crate) const RECOVER: usize = 264 * KIB;

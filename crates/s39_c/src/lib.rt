@@ -9,7 +9,10 @@ mod answer;
 mod clearing;
 mod counting;
 mod creating;
+mod decrypting;
 mod drilling;
+mod encrypted;
+mod expected;
 mod exponent;
 mod fingerprinting;
 pub mod laws;
@@ -29,7 +32,9 @@ mod words;
 pub use answer::ShamirAnswer;
 pub use counting::shamir_quorums;
 pub use creating::{shamir_create, shamir_random_needed};
+pub use decrypting::shamir_decrypt;
 pub use drilling::shamir_drill;
+pub use encrypted::{ShamirParameters, shamir_encrypted};
 pub use fingerprinting::shamir_fingerprint;
 pub use parsing::{ShamirShare, shamir_parse};
 pub use recovering::shamir_recover;
@@ -42,6 +47,8 @@ pub use version::shamir_version;
 pub use wiping::shamir_wipe;
 pub use words::shamir_words;
 
+#[cfg(test)]
+mod encrypted_tests;
 #[cfg(test)]
 mod expected_tests;
 #[cfg(test)]

@@ -8,10 +8,11 @@ ghost use Rattle.s39_c.specs.Recovering.{GivesExpectedSecret, GivesSecret};
 
 use crate::answer::ShamirAnswer;
 use crate::clearing::RECOVER;
+use crate::expected::expected_in;
 use crate::exponent::set_up_to;
 use crate::memory::give;
 use s39_clearing::clear_stack;
-use s39_kdf::{NotedFingerprint, parse_fingerprint};
+use s39_kdf::NotedFingerprint;
 use s39_reading::laws::created_backups_recover;
 use s39_reading::recover_set;
 use s39_set::ShareSet;
@@ -71,11 +72,8 @@ fn recover_answer(
         (GivesSecret (IsRecoverOutput Digits noted passphrase.now (whole lines.now)) secret.old) secret.old)
         expected.now secret.old secret.new result }
 {
-    if expected.is_empty() {
-        return recover_expected(lines, passphrase, max_exponent, None, secret);
-    }
-    match parse_fingerprint(expected) {
-        Ok(noted) => recover_expected(lines, passphrase, max_exponent, Some(noted), secret),
+    match expected_in(expected) {
+        Ok(noted) => recover_expected(lines, passphrase, max_exponent, noted, secret),
         Err(error) => ShamirAnswer::from(error),
     }
 }

@@ -1,5 +1,6 @@
 pub mod Texts
 pub mod Runs
 pub mod Exponents
+pub mod Decryptions
 pub mod Statuses
 pub mod Lengths

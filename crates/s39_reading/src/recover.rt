@@ -150,7 +150,7 @@ pub fn recover_set(
 }
 
 /// The secret, or the fault if another fingerprint is expected.
-fn as_expected(expected: Option<NotedFingerprint>, secret: Bytes) -> Result<Bytes, Fault>
+pub(crate) fn as_expected(expected: Option<NotedFingerprint>, secret: Bytes) -> Result<Bytes, Fault>
     ensures secret { IfOk result (λ same. as_expected expected secret.items ≡ Ok same.items) }
     ensures refused { IfErr result (λ fault. as_expected expected secret.items ≡ Err fault) }
 {

@@ -1,9 +1,10 @@
 //! The examples of the doc comments of `s39_reading`, line for line. The values come from published vectors, or from a plain reading of
 //! the standard in Python.
 use s39_input::{Counting, SecretForm, checked_set_in};
-use s39_kdf::parse_fingerprint;
+use s39_kdf::{Params, parse_fingerprint};
 use s39_reading::{
-    exponent_of, recover_secret, recover_set, run_recover, run_status, status_lines,
+    decrypt_secret, encrypted_in, exponent_of, recover_secret, recover_set, run_recover,
+    run_status, status_lines,
 };
 use std::alloc::AllocGlobal;
 use std::process::Abort;
@@ -12,6 +13,7 @@ use std::test::Fail;
 #[test]
 fn examples(rt: HostRuntime) -> Result<(), Fail> {
     recoveries(&rt)?;
+    encrypted_secrets(&rt)?;
     statuses(&rt)?;
     sets(&rt)
 }
@@ -35,6 +37,31 @@ fn recoveries(rt: &(impl Abort + AllocGlobal)) -> Result<(), Fail> {
     let expected = Some(parse_fingerprint(b"df41d8fe")?);
     let fault = recover_secret(expected, b"trezor", line).err();
     assert_eq!(rt; fault.map(|fault| fault.refusal.cause().code), Some(52));
+    Ok(())
+}
+
+fn encrypted_secrets(rt: &impl Abort) -> Result<(), Fail> {
+    let line =
+        b"duckling enlarge academic academic agency result length solution fridge kidney coal \
+        piece deal husband erode duke ajar critical decision keyboard\n";
+    let encrypted = encrypted_in(line)?;
+    assert_eq!(rt; (encrypted.params.id, encrypted.params.exponent), (7945, 0));
+    assert!(rt;
+        encrypted
+            .bytes
+            .starts_with(b"\x11\xbc\x60\x9d\x21\x74\x7c\x49")
+    );
+
+    let params = Params {
+        id: 7945,
+        extendable: false,
+        exponent: 0,
+    };
+    let encrypted = b"\x11\xbc\x60\x9d\x21\x74\x7c\x49\xba\x78\xc0\x70\x12\x93\xe4\x17";
+    let secret = decrypt_secret(None, b"TREZOR", params, encrypted)?;
+    assert!(rt; secret.starts_with(b"\xbb\x54\xaa\xc4\xb8\x9d\xc8\x68"));
+    let fault = decrypt_secret(None, b"TREZOR", params, &encrypted[1..]).err();
+    assert_eq!(rt; fault.map(|fault| fault.refusal.cause().code), Some(42));
     Ok(())
 }
 
