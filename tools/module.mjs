@@ -36,6 +36,13 @@ const COMMANDS = {
     const secret = shamir.recover(lines, { passphrase, expect });
     return ended([fingerprint ? shamir.fingerprint(secret) : hex(secret)]);
   },
+  encrypted(words, options, lines) {
+    const { id, extendable, exponent, value } = shamir.encrypted(lines);
+    return `identifier ${id} extendable ${Number(extendable)} exponent ${exponent} value ${hex(value)}\n`;
+  },
+  decrypt(words, { id, extendable = false, exponent, passphrase, expect }, value) {
+    return ended([hex(shamir.decrypt({ id: Number(id), extendable, exponent: Number(exponent), value }, { passphrase, expect }))]);
+  },
   drill(words, { passphrase, after, limit = Infinity, fingerprint = false, expect }, lines) {
     const listed = [];
     for (const outcome of shamir.drill(lines, { passphrase, after, fingerprints: fingerprint, expect })) {

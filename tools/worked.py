@@ -200,6 +200,58 @@ RECOVERED_WITHOUT_ROOM: List[Row] = [
 ]
 
 
+# tools/plain.py computed the encrypted secrets. The passphrase gives the secrets of the vectors with them.
+ONE_KEPT, ONE_ENCRYPTED = (7945, 0, 0), bytes.fromhex("11bc609d21747c49ba78c0701293e417")
+TWO_KEPT, TWO_ENCRYPTED = (25653, 0, 2), bytes.fromhex("cdc017fddc829e791b1371780be0605a")
+FIVE_KEPT, FIVE_ENCRYPTED = (1, 0, 0), bytes.fromhex("ae3283670d8226e104447ff0a4a32f69")
+OLD_KEPT, OLD_ENCRYPTED = (9066, 1, 0), bytes.fromhex("644c905b0c4da21692f06fff3ed8b3e1")
+SLOW_KEPT, SLOW_ENCRYPTED = (29019, 1, 3), bytes.fromhex("9e8773c7313b11d3bfe219291976433b")
+
+# After the output come the parameters.
+ENCRYPTED: List[Row] = [
+    ([ONE], DONE, ONE_ENCRYPTED, ONE_KEPT),
+    ([TWO_2, TWO_0], DONE, TWO_ENCRYPTED, TWO_KEPT),
+    (["# a note", "", FIVE_4, FIVE_3], DONE, FIVE_ENCRYPTED, FIVE_KEPT),
+    ([OLD_0, OLD_2], DONE, OLD_ENCRYPTED, OLD_KEPT),
+    ([EXTENDABLE], DONE, SLOW_ENCRYPTED, SLOW_KEPT),
+    # The first quorum is taken, and no other one is tried.
+    ([FIVE_0, FIVE_1, FORGED_2, FIVE_3, FIVE_4], DONE, FIVE_ENCRYPTED, FIVE_KEPT),
+    ([FORGED_0, FIVE_1, FIVE_2, FIVE_3, FIVE_4], Answer(51, "digest mismatch in group 0"), "", None),
+    ([UNEVEN_GROUP_0, UNEVEN_GROUP_1], Answer(51, "digest mismatch of groups", first=OF_GROUPS), "", None),
+    ([FIVE_3, ONE_WRONG], Answer(13, "bad checksum", line=2), "", None),
+    ([TWO_0, ONE], Answer(21, "other identifier", line=2), "", None),
+    (["#" * 1025], Answer(71, "line too long", line=1), "", None),
+    ([TWO_0], Answer(30, "incomplete: 0 of 1 groups", second=1), "", None),
+    ([], Answer(29, "no shares"), "", None),
+]
+
+DECRYPTED: List[Row] = [
+    (ONE_KEPT, ONE_ENCRYPTED, KEY, None, DONE, SECRET),
+    (ONE_KEPT, ONE_ENCRYPTED, None, None, DONE, OTHER_SECRET),
+    (TWO_KEPT, TWO_ENCRYPTED, KEY, "5f5702dc", DONE, TWO_SECRET),
+    (FIVE_KEPT, FIVE_ENCRYPTED, KEY, "DF41D8fe", DONE, SECRET),
+    (OLD_KEPT, OLD_ENCRYPTED, KEY, None, DONE, bytes.fromhex("48b1a4b80b8c209ad42c33672bdaa428")),
+    (SLOW_KEPT, SLOW_ENCRYPTED, KEY, None, DONE, bytes.fromhex("1679b4516e0ee5954351d288a838f45e")),
+    # The identifier of an extendable backup isn't in the encryption.
+    ((32767, 1, 0), OLD_ENCRYPTED, KEY, None, DONE, bytes.fromhex("48b1a4b80b8c209ad42c33672bdaa428")),
+    ((32768, 0, 0), None, "a\x07", "0", Answer(2, "number out of range"), ""),
+    ((65535, 1, 0), ONE_ENCRYPTED, KEY, None, Answer(2, "number out of range"), ""),
+    ((1, 2, 0), None, "a\x07", "0", Answer(2, "number out of range"), ""),
+    ((1, 255, 0), ONE_ENCRYPTED, KEY, None, Answer(2, "number out of range"), ""),
+    ((1, 0, 16), None, "a\x07", "0", Answer(2, "number out of range"), ""),
+    ((1, 1, 255), ONE_ENCRYPTED, KEY, None, Answer(2, "number out of range"), ""),
+    (ONE_KEPT, None, "a\x07", "df41d8f", Answer(44, "bad fingerprint"), ""),
+    (ONE_KEPT, None, "a\x07", "df41d8fg", Answer(44, "bad fingerprint"), ""),
+    (ONE_KEPT, None, "a\x07", "df41d8fe", Answer(41, "passphrase byte 2 not printable", first=2), ""),
+    (ONE_KEPT, None, KEY, None, Answer(42, "secret of 0 bytes"), ""),
+    (ONE_KEPT, SECRET[1:], KEY, "df41d8fe", Answer(42, "secret of 15 bytes", first=15), ""),
+    (ONE_KEPT, SECRET + b"\n", KEY, None, Answer(42, "secret of 17 bytes", first=17), ""),
+    (ONE_KEPT, bytes(130), KEY, None, Answer(42, "secret of 130 bytes", first=130), ""),
+    (ONE_KEPT, ONE_ENCRYPTED, KEY, "df41d8ff", Answer(52, "other secret"), ""),
+    (ONE_KEPT, ONE_ENCRYPTED, None, "df41d8fe", Answer(52, "other secret"), ""),
+]
+
+
 def listed(names: str) -> str:
     """Returns the line of a quorum with the secret."""
     return f"{names} {SECRET.hex()}\n"
@@ -530,6 +582,10 @@ def examples() -> Iterator[Example]:
         yield example("recover", [lines, key, most, expected], answer, output)
     for lines, key, most, expected, answer in RECOVERED_WITHOUT_ROOM:
         yield example("recover", [lines, key, most, expected], answer, room=0)
+    for lines, answer, output, kept in ENCRYPTED:
+        yield example("encrypted", [lines], answer, output, share=(*kept, *NO_SHARE[3:]) if kept else NO_SHARE)
+    for kept, value, key, expected, answer, output in DECRYPTED:
+        yield example("decrypt", [*kept, value, key, expected], answer, output)
     for lines, key, most, after, limit, form, expected, room, answer, mismatches, output in DRILLED:
         yield example("drill", [lines, key, most, after, limit, form, expected], answer, output, room=room, mismatches=mismatches)
     for lines, answer in QUORUMS:

@@ -68,17 +68,18 @@ export function flag(value, what) {
 }
 
 /**
- * Returns the options of a call. A name that the call doesn't know is refused, because a misspelt `passphrase` would stand for
- * no passphrase.
+ * Returns the options of a call, or the fields of an object. Another name than these is refused, because a misspelt `passphrase` would
+ * stand for no passphrase, and a share isn't an encrypted secret.
  * @template T
  * @param {T} options
  * @param {(keyof T)[]} names
+ * @param {string} what
  * @returns {T}
  */
-export function known(options, names) {
-  if (typeof options !== "object" || options === null) throw new TypeError("the options aren't an object");
+export function known(options, names, what = "the options of this call") {
+  if (typeof options !== "object" || options === null) throw new TypeError(`${what} aren't in an object`);
   const given = /** @type {(keyof T)[]} */ (Object.keys(options));
-  if (!given.every((name) => names.includes(name))) throw new TypeError(`the options of this call are ${names.join(", ")}`);
+  if (!given.every((name) => names.includes(name))) throw new TypeError(`${what} are ${names.join(", ")}`);
   return options;
 }
 

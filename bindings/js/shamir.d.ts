@@ -88,6 +88,32 @@ export class Engine {
      */
     recover(lines: Lines, options?: import("./types.js").RecoverOptions | undefined): Uint8Array;
     /**
+     * Combines the first quorum of mnemonics, in the order of `drill`, to the encrypted secret, and returns it with its parameters.
+     *
+     *     const kept = shamir.encrypted(mnemonics.slice(1));
+     *     const secret = shamir.decrypt(kept, { passphrase: "TREZOR" });
+     *
+     * `lines` is as for `recover`, which gives what `decrypt` gives of the result. The call needs no passphrase, and makes no
+     * iterations. So a program can keep the encrypted secret in place of the mnemonics, and ask for the passphrase each time.
+     *
+     * Throws a `Refusal` with one of the codes 11 to 30, 51 or 71.
+     * @param {Lines} lines
+     * @returns {EncryptedSecret}
+     */
+    encrypted(lines: Lines): EncryptedSecret;
+    /**
+     * Decrypts what `encrypted` gave, and returns the secret. An object with other fields, such as a share, throws a TypeError.
+     *
+     * `passphrase` and `expect` are as for `recover`. The call takes the iterations of `recover`, and no `maxExponent`: the exponent is
+     * a field of the encrypted secret.
+     *
+     * Throws a `Refusal` with one of the codes 2 (a field is out of range), 41, 42, 44 or 52.
+     * @param {EncryptedSecret} encrypted
+     * @param {DecryptOptions} [options]
+     * @returns {Uint8Array}
+     */
+    decrypt(encrypted: EncryptedSecret, options?: import("./types.js").DecryptOptions | undefined): Uint8Array;
+    /**
      * Returns an iterator over what each quorum of mnemonics recovers, in ascending order of their names.
      *
      *     for (const outcome of shamir.drill(mnemonics, { passphrase: "TREZOR", fingerprints: true })) {
@@ -253,7 +279,9 @@ export class Engine {
     #private;
 }
 export type CreateOptions = import("./types.js").CreateOptions;
+export type DecryptOptions = import("./types.js").DecryptOptions;
 export type DrillOptions = import("./types.js").DrillOptions;
+export type EncryptedSecret = import("./types.js").EncryptedSecret;
 export type GroupStatus = import("./types.js").GroupStatus;
 export type Lines = import("./types.js").Lines;
 export type Outcome = import("./types.js").Outcome;

@@ -38,7 +38,9 @@ export { Code, OF_GROUPS, Refusal } from "./refusal.js";
 export const EXPONENT_MAX = 15;
 
 /** @typedef {import("./types.js").CreateOptions} CreateOptions */
+/** @typedef {import("./types.js").DecryptOptions} DecryptOptions */
 /** @typedef {import("./types.js").DrillOptions} DrillOptions */
+/** @typedef {import("./types.js").EncryptedSecret} EncryptedSecret */
 /** @typedef {import("./types.js").GroupStatus} GroupStatus */
 /** @typedef {import("./types.js").Lines} Lines */
 /** @typedef {import("./types.js").Outcome} Outcome */
@@ -61,6 +63,7 @@ const FORM_FINGERPRINTS = 1;
 const FORM_EXPECTED = 2;
 
 const SHARE_BYTES = 10;
+const PARAMETERS_BYTES = 4;
 const NUMBER_MAX = 2 ** 32 - 1;
 // `resplit` draws random bytes so often at most. One draw in 32,768 gives the identifier of the old backup.
 const DRAWS = 10;
@@ -78,6 +81,16 @@ const VERSION = "1.";
 function textOrNone(own, text, what) {
   const copy = own.text(text === undefined ? "" : text, what);
   return text === undefined || copy.length > 0 ? copy : own.text("+", what);
+}
+
+/**
+ * Returns the struct of the parameters of an encrypted secret, which has two bytes for the identifier.
+ * @param {EncryptedSecret} encrypted
+ */
+function parametersOf(encrypted) {
+  const { id, extendable, exponent } = known(encrypted, ["id", "extendable", "exponent", "value"], "the fields of an encrypted secret");
+  const whole = wholeNumber(id, "the identifier", 2 ** 16 - 1);
+  return new Struct(Uint8Array.of(whole & 255, whole >> 8, Number(flag(extendable, "extendable")), wholeNumber(exponent, "the exponent", 255)));
 }
 
 /** The engine. `load` gives one. */
@@ -197,6 +210,48 @@ export class Engine {
     return withCopies((own) => {
       const given = [own.lines(lines), own.text(passphrase, "the passphrase"), most, textOrNone(own, expect, "expect")];
       return this.#output("shamir_recover", given, SECRET_BYTES_MAX);
+    });
+  }
+
+  /**
+   * Combines the first quorum of mnemonics, in the order of `drill`, to the encrypted secret, and returns it with its parameters.
+   *
+   *     const kept = shamir.encrypted(mnemonics.slice(1));
+   *     const secret = shamir.decrypt(kept, { passphrase: "TREZOR" });
+   *
+   * `lines` is as for `recover`, which gives what `decrypt` gives of the result. The call needs no passphrase, and makes no
+   * iterations. So a program can keep the encrypted secret in place of the mnemonics, and ask for the passphrase each time.
+   *
+   * Throws a `Refusal` with one of the codes 11 to 30, 51 or 71.
+   * @param {Lines} lines
+   * @returns {EncryptedSecret}
+   */
+  encrypted(lines) {
+    return withCopies((own) => {
+      const found = new Struct(new Uint8Array(PARAMETERS_BYTES));
+      const value = this.#output("shamir_encrypted", [own.lines(lines), found], SECRET_BYTES_MAX);
+      const [low, high, extendable, exponent] = found.bytes;
+      return { id: low + 256 * high, extendable: extendable > 0, exponent, value };
+    });
+  }
+
+  /**
+   * Decrypts what `encrypted` gave, and returns the secret. An object with other fields, such as a share, throws a TypeError.
+   *
+   * `passphrase` and `expect` are as for `recover`. The call takes the iterations of `recover`, and no `maxExponent`: the exponent is
+   * a field of the encrypted secret.
+   *
+   * Throws a `Refusal` with one of the codes 2 (a field is out of range), 41, 42, 44 or 52.
+   * @param {EncryptedSecret} encrypted
+   * @param {DecryptOptions} [options]
+   * @returns {Uint8Array}
+   */
+  decrypt(encrypted, options = {}) {
+    const { passphrase = "", expect } = known(options, ["passphrase", "expect"]);
+    const parameters = parametersOf(encrypted);
+    return withCopies((own) => {
+      const given = [own.data(encrypted.value, "the value"), own.text(passphrase, "the passphrase"), textOrNone(own, expect, "expect")];
+      return this.#output("shamir_decrypt", [parameters, ...given], SECRET_BYTES_MAX);
     });
   }
 

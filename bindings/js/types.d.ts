@@ -114,6 +114,21 @@ export interface Share {
   value: Uint8Array;
 }
 
+/**
+ * The encrypted secret of a backup, and the parameters that decrypt it together with the passphrase. Whoever has it can test guesses
+ * of the passphrase, and without a passphrase it is as secret as the secret itself.
+ */
+export interface EncryptedSecret {
+  /** The identifier of the backup, 0 to 32767. */
+  id: number;
+  /** The extendable flag. */
+  extendable: boolean;
+  /** The iteration exponent, 0 to 15. */
+  exponent: number;
+  /** The bytes, as many as the secret has. */
+  value: Uint8Array;
+}
+
 /** What an outcome is of, whatever it holds. */
 interface OfQuorum {
   /** The names of its mnemonics, such as `0.0+0.2+1.0`. */
@@ -196,13 +211,16 @@ export interface CreateOptions {
   random?: Uint8Array | undefined;
 }
 
-export interface RecoverOptions {
+export interface DecryptOptions {
   /** The passphrase of the backup. If it is left out, there is none. */
   passphrase?: Text | undefined;
-  /** A greater exponent of the mnemonics is refused (3). If it is left out, every exponent is taken. */
-  maxExponent?: number | undefined;
   /** The fingerprint that the secret should have: eight hexadecimal digits. If it is left out, nothing is compared. */
   expect?: Text | undefined;
+}
+
+export interface RecoverOptions extends DecryptOptions {
+  /** A greater exponent of the mnemonics is refused (3). If it is left out, every exponent is taken. */
+  maxExponent?: number | undefined;
 }
 
 export interface ResplitOptions {

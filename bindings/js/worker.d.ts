@@ -20,6 +20,19 @@ export class InWorker {
      */
     recover(lines: Lines, options?: import("./types.js").RecoverOptions | undefined, signal?: AbortSignal | undefined): Promise<Uint8Array>;
     /**
+     * @param {Lines} lines
+     * @param {AbortSignal} [signal]
+     * @returns {Promise<EncryptedSecret>}
+     */
+    encrypted(lines: Lines, signal?: AbortSignal | undefined): Promise<EncryptedSecret>;
+    /**
+     * @param {EncryptedSecret} encrypted
+     * @param {DecryptOptions} [options]
+     * @param {AbortSignal} [signal]
+     * @returns {Promise<Uint8Array>}
+     */
+    decrypt(encrypted: EncryptedSecret, options?: import("./types.js").DecryptOptions | undefined, signal?: AbortSignal | undefined): Promise<Uint8Array>;
+    /**
      * Yields what each quorum recovers, as `drill` of the engine does. The worker computes it in parts of a fifth of a second.
      * @param {Lines} lines
      * @param {DrillOptions} [options]
@@ -82,7 +95,9 @@ export class InWorker {
     #private;
 }
 export type CreateOptions = import("./types.js").CreateOptions;
+export type DecryptOptions = import("./types.js").DecryptOptions;
 export type DrillOptions = import("./types.js").DrillOptions;
+export type EncryptedSecret = import("./types.js").EncryptedSecret;
 export type Lines = import("./types.js").Lines;
 export type Outcome = import("./types.js").Outcome;
 export type RecoverOptions = import("./types.js").RecoverOptions;

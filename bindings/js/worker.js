@@ -12,7 +12,9 @@
 import { refusalOf } from "./clones.js";
 
 /** @typedef {import("./types.js").CreateOptions} CreateOptions */
+/** @typedef {import("./types.js").DecryptOptions} DecryptOptions */
 /** @typedef {import("./types.js").DrillOptions} DrillOptions */
+/** @typedef {import("./types.js").EncryptedSecret} EncryptedSecret */
 /** @typedef {import("./types.js").Lines} Lines */
 /** @typedef {import("./types.js").Outcome} Outcome */
 /** @typedef {import("./types.js").RecoverOptions} RecoverOptions */
@@ -96,6 +98,25 @@ export class InWorker {
    */
   recover(lines, options = {}, signal) {
     return this.#call("recover", [copyable(lines), options], signal);
+  }
+
+  /**
+   * @param {Lines} lines
+   * @param {AbortSignal} [signal]
+   * @returns {Promise<EncryptedSecret>}
+   */
+  encrypted(lines, signal) {
+    return this.#call("encrypted", [copyable(lines)], signal);
+  }
+
+  /**
+   * @param {EncryptedSecret} encrypted
+   * @param {DecryptOptions} [options]
+   * @param {AbortSignal} [signal]
+   * @returns {Promise<Uint8Array>}
+   */
+  decrypt(encrypted, options = {}, signal) {
+    return this.#call("decrypt", [encrypted, options], signal);
   }
 
   /**

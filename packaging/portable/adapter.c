@@ -7,6 +7,7 @@
 #define MEMORY_BYTES_MAX 0xFFFF0000u
 #define NO_MEMORY_TEXT "no memory left for the call"
 #define SHARE_BYTES 10u
+#define PARAMETERS_BYTES 4u
 /* A frame of the generated part has at most this many bytes, with those of functions that it calls and that don't move the pointer. */
 #define FRAMES_BYTES 32768u
 #define PARTS_MAX 4
@@ -229,6 +230,43 @@ shamir_answer shamir_recover(
         return no_memory();
     module_recover(
         &c.m, ANSWER, from, lines_bytes, words, passphrase_bytes, max_exponent, print, expected_bytes, c.room, room_bytes);
+    RETURN_ANSWER(&c, secret);
+}
+
+shamir_answer shamir_encrypted(
+    const char *lines, size_t lines_bytes, shamir_parameters *parameters, uint8_t *encrypted, size_t encrypted_bytes)
+{
+    call c = new_call();
+    u32 from = given(&c, lines, lines_bytes), fields = place(&c, PARAMETERS_BYTES);
+    size_t room_bytes = at_most(encrypted_bytes, SHAMIR_SECRET_BYTES_MAX);
+
+    c.room = place(&c, room_bytes);
+    if (!begin(&c))
+        return no_memory();
+    module_encrypted(&c.m, ANSWER, from, lines_bytes, fields, c.room, room_bytes);
+    if (i32_load(&c.m, ANSWER) == SHAMIR_DONE) {
+        parameters->id = (uint16_t)i32_load16_u(&c.m, fields);
+        parameters->extendable = c.m.data[fields + 2];
+        parameters->exponent = c.m.data[fields + 3];
+    }
+    RETURN_ANSWER(&c, encrypted);
+}
+
+shamir_answer shamir_decrypt(
+    const shamir_parameters *parameters, const uint8_t *encrypted, size_t encrypted_bytes, const char *passphrase, size_t passphrase_bytes,
+    const char *expected, size_t expected_bytes, uint8_t *secret, size_t secret_bytes)
+{
+    call c = new_call();
+    u32 fields = place(&c, PARAMETERS_BYTES), from = given(&c, encrypted, encrypted_bytes), words = given(&c, passphrase, passphrase_bytes),
+        print = given(&c, expected, expected_bytes);
+    size_t room_bytes = at_most(secret_bytes, SHAMIR_SECRET_BYTES_MAX);
+
+    c.room = place(&c, room_bytes);
+    if (!begin(&c))
+        return no_memory();
+    i32_store(&c.m, fields, parameters->id | (u32)parameters->extendable << 16 | (u32)parameters->exponent << 24);
+    module_decrypt(
+        &c.m, ANSWER, fields, from, encrypted_bytes, words, passphrase_bytes, print, expected_bytes, c.room, room_bytes);
     RETURN_ANSWER(&c, secret);
 }
 

@@ -5,8 +5,9 @@
  *
  * Each line of the input is a call: its name, its arguments in their order, and the room for its output, with single spaces between.
  * Bytes are hexadecimal digits after an x, and numbers are decimal. A dash stands for NULL. The program writes a line for each call:
- * the fields of its answer, those of the share that shamir_parse gives, and the output as hexadecimal digits. It marks the bytes in and
- * round each output. If a call changes one that it mustn't, or one of its arguments, the line has the word `changed` too.
+ * the fields of its answer, those of the share that shamir_parse gives, the first three of which shamir_encrypted gives, and the output
+ * as hexadecimal digits. It marks the bytes in and round each output. If a call changes one that it mustn't, or one of its arguments,
+ * the line has the word `changed` too.
  *
  *     threads COUNT   makes all calls once in each of so many threads, and then once more. It writes the answers of the last time, and
  *                     before them `differs` if a thread got others (with -DTHREADED)
@@ -98,6 +99,23 @@ static void text(const made_call *c, result *r)
     r->answer = shamir_text(&given, CHARACTERS);
 }
 
+static void encrypted(const made_call *c, result *r)
+{
+    shamir_parameters found = {(uint16_t)(MARK << 8 | MARK), MARK, MARK};
+
+    r->answer = shamir_encrypted(TEXT(0), &found, r->output, r->room);
+    r->share.id = found.id;
+    r->share.extendable = found.extendable;
+    r->share.exponent = found.exponent;
+}
+
+static void decrypt(const made_call *c, result *r)
+{
+    shamir_parameters given = {(uint16_t)WIDE(0), (uint8_t)WIDE(1), (uint8_t)WIDE(2)};
+
+    r->answer = shamir_decrypt(&given, BYTES(3), TEXT(4), TEXT(5), r->output, r->room);
+}
+
 /* Clears the whole output, which it gets as an argument too. */
 static void wipe(const made_call *c, result *r)
 {
@@ -132,7 +150,8 @@ static const struct {
     {"parse", parse, 1},   {"random_needed", random_needed, 2}, {"create", create, 6},   {"recover", recover, 4},
     {"drill", drill, 7},   {"status", status, 1},               {"reissue", reissue, 3}, {"repair", repair, 1},
     {"fingerprint", fingerprint, 1}, {"words", words, 1},       {"text", text, 6},       {"version", version, 0},
-    {"wipe", wipe, 1},     {"quorums", quorums, 1},             {"resplit", resplit, 3},
+    {"wipe", wipe, 1},     {"quorums", quorums, 1},             {"resplit", resplit, 3}, {"encrypted", encrypted, 1},
+    {"decrypt", decrypt, 6},
 #ifdef MARKED
     {"control", control, 1},
 #endif

@@ -8,6 +8,7 @@ from tool import tool
 compare = tool("compare")
 
 ENOUGH = {"parse": 128, "create": 253440, "recover": 128, "drill": 65536, "status": 1638, "reissue": 253440, "repair": 1980, "resplit": 253440}
+ENOUGH |= {"encrypted": 128, "decrypt": 128}
 ENOUGH |= {"fingerprint": 8, "words": 7231, "text": 64, "version": 64}
 CODES = [*range(0, 35), 41, 42, 43, 44, 51, 52, *range(61, 69), 71, 72, 99, 2**32 - 1]
 FORMS = [0, 0, 1, 2, 2, 3]
@@ -48,6 +49,17 @@ def drill_call(rng: random.Random) -> str:
     expected = compare.fingerprint_of(rng, data, passphrase) if form == 2 or rng.random() < 0.1 else ""
     limit = rng.choice([1, 2, 3, 7, 50, 1000, 1000, 2**32 - 1] * 4 + [0])
     return call(rng, "drill", data, passphrase, rng.choice([15, 15, 15, 0]), after, limit, form, expected)
+
+
+def encrypted_call(rng: random.Random) -> str:
+    return call(rng, "encrypted", compare.made_backup(rng)[0])
+
+
+def decrypt_call(rng: random.Random) -> str:
+    value, passphrase = compare.made_secret(rng), compare.made_passphrase(rng)
+    numbers = [rng.choice([rng.randrange(2**15)] * 9 + [2**15, 2**16 - 1]), rng.choice([0, 1] * 9 + [2, 255]), rng.choice([0] * 12 + [1, 16, 255])]
+    expected = rng.choice(["", "", "00000000", "x"])
+    return call(rng, "decrypt", *numbers, value, passphrase, expected)
 
 
 def status_call(rng: random.Random) -> str:
@@ -103,7 +115,7 @@ def wipe_call(rng: random.Random) -> str:
 KINDS: Dict[Callable[[random.Random], str], int] = {
     parse_call: 18, random_needed_call: 8, create_call: 5, recover_call: 6, drill_call: 5, status_call: 12, reissue_call: 12,
     repair_call: 14, fingerprint_call: 6, words_call: 6, text_call: 6, version_call: 1, wipe_call: 1,
-    quorums_call: 6, resplit_call: 8,
+    quorums_call: 6, resplit_call: 8, encrypted_call: 8, decrypt_call: 4,
 }  # fmt: skip
 
 

@@ -18,6 +18,8 @@ ALLOWED: Dict[Tuple[str, str], List[str]] = {
     ("create", "secret"): WRITTEN,
     ("create", "passphrase"): [*WRITTEN, PRINTABLE],
     ("recover", "passphrase"): [PRINTABLE],
+    ("decrypt", "secret"): [],
+    ("decrypt", "passphrase"): [PRINTABLE],
     ("fingerprint", "secret"): [],
 }
 # The tool must see these two instructions of driver.c.

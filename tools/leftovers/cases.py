@@ -10,7 +10,8 @@ LENGTHS = [16, 18, 32, 128]
 MANY = ",".join(["16of16"] * 16)
 ROOM = 253440
 # These calls get something secret.
-CALLS = ["parse", "create", "recover", "drill", "status", "quorums", "reissue", "resplit", "repair", "fingerprint", "words"]
+CALLS = ["parse", "create", "recover", "encrypted", "decrypt", "drill", "status", "quorums", "reissue", "resplit", "repair"]
+CALLS += ["fingerprint", "words"]
 
 Argument = Union[bytes, str, int]
 
@@ -117,6 +118,33 @@ def readings(backup: Backup) -> Iterator[Case]:
         yield Case("drill", case.code, [case.arguments[0], PASSPHRASE, 15, "", 9, 0, "", ROOM])
 
 
+def encryptions(backup: Backup) -> Iterator[Case]:
+    """Yields what encrypted does with lines, and decrypt with an encrypted secret."""
+    enough, first = backup.lines("0.0", "0.2", "1.0"), backup.shares[0]
+    mixed = backup.lines("0.0", "1.0") + other_value(backup.shares[1])
+    for code, lines, room in [
+        (0, enough, 128),
+        (1, enough, len(backup.secret) - 1),
+        (13, wrong_word(enough, 9), 128),
+        (29, b"", 128),
+        (30, backup.lines("0.1", "1.0"), 128),
+        (51, mixed, 128),
+    ]:
+        yield Case("encrypted", code, [lines, room])
+    value, fingerprint = plain.encrypt(backup.secret, PASSPHRASE, first), plain.told(backup.secret, True).strip()
+    for code, exponent, given, passphrase, expected, room in [
+        (0, 0, value, PASSPHRASE, "", 128),
+        (0, 0, value, PASSPHRASE, fingerprint, 128),
+        (1, 0, value, PASSPHRASE, "", len(value) - 1),
+        (2, 16, value, PASSPHRASE, "", 128),
+        (41, 0, value, PASSPHRASE + b"\x07", "", 128),
+        (42, 0, value + b"\1", PASSPHRASE, "", 128),
+        (44, 0, value, PASSPHRASE, "x", 128),
+        (52, 0, value, PASSPHRASE, "00000000", 128),
+    ]:
+        yield Case("decrypt", code, [first["id"], first["extendable"], exponent, given, passphrase, expected, room])
+
+
 def reissues(backup: Backup) -> Iterator[Case]:
     others = backup.lines("0.0", "0.1", "1.0", "2.0", "2.1", "2.3")
     mixed = backup.lines("0.0") + other_value(backup.shares[1])
@@ -187,6 +215,7 @@ def greatest(backup: Backup) -> Iterator[Case]:
     lines = backup.lines()
     yield Case("create", 0, [backup.plan, backup.secret, PASSPHRASE, 0, 0, backup.random, ROOM])
     yield Case("recover", 0, [lines, PASSPHRASE, 15, "", 128])
+    yield Case("encrypted", 0, [lines, 128])
     yield Case("drill", 0, [lines, PASSPHRASE, 15, "", 2, 0, "", ROOM])
     yield Case("status", 0, [lines, ROOM])
     yield Case("quorums", 0, [lines, 0])
@@ -196,7 +225,7 @@ def greatest(backup: Backup) -> Iterator[Case]:
 def all_cases() -> Iterator[tuple[Backup, List[Case]]]:
     for length in LENGTHS:
         backup = created(PLAN, length)
-        yield backup, [case for cases in (creations, readings, reissues, lines_alone) for case in cases(backup)]
+        yield backup, [case for cases in (creations, readings, encryptions, reissues, lines_alone) for case in cases(backup)]
         backup = split_anew(PLAN, NEW_PLAN, length)
         yield backup, list(resplits(backup))
     backup = created(f"15/{MANY}", 128)

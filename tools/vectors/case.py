@@ -50,6 +50,19 @@ def drilled(reader, given):
     return {"quorums": found}
 
 
+def combined(reader, given):
+    backup = reader.set_of("\n".join(given["mnemonics"]).encode())
+    first = reader.quorums(backup)[0]
+    share, value = backup[first[0]], reader.combined(backup, first)
+    return {"encrypted": {"identifier": share["id"], "extendable": bool(share["extendable"]), "exponent": share["exponent"], "value": value.hex()}}
+
+
+def decrypted(reader, given):
+    reader.check_passphrase(given["passphrase"].encode())
+    params = {"id": given["identifier"], "extendable": given["extendable"], "exponent": given["exponent"]}
+    return {"secret": reader.decrypt(bytes.fromhex(given["value"]), given["passphrase"].encode(), params).hex()}
+
+
 def created(reader, given):
     plan = reader.parse_plan(given["plan"])
     secret, random = bytes.fromhex(given["secret"]), bytes.fromhex(given["random"])
@@ -62,7 +75,9 @@ def split_anew(reader, given):
     return {"mnemonics": [reader.mnemonic(share) for share in reader.resplit(plan, data, bytes.fromhex(given["random"]))]}
 
 
-ASKED = {"parse": parsed, "recover": recovered, "quorums": drilled, "create": created, "resplit": split_anew}
+ASKED = {
+    "parse": parsed, "recover": recovered, "quorums": drilled, "create": created, "resplit": split_anew, "encrypted": combined, "decrypt": decrypted,
+}
 
 
 def refused(refusal):

@@ -9,6 +9,7 @@ import json
 import multiprocessing
 import re
 
+import encrypted
 import one_mnemonic
 import plain
 import recovery
@@ -19,7 +20,7 @@ from case import Case, answer, differs, wrong_answer
 from mistakes import MISTAKES, Mistake, mistaken
 
 FOLDER = plain.ROOT / "vectors"
-KINDS = one_mnemonic.KINDS | sets.KINDS | recovery.KINDS | resplits.KINDS
+KINDS = one_mnemonic.KINDS | sets.KINDS | recovery.KINDS | resplits.KINDS | encrypted.KINDS
 # So many of the cases that catch a mistake are listed. Those that the standard's rules decide come first.
 MOST_LISTED = 5
 # What a writer is asked.

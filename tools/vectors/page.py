@@ -9,6 +9,7 @@ import plain
 from left_out import left_out, python_with
 
 import data
+import encrypted
 import readers
 import resplits
 from backups import closed, indices
@@ -104,11 +105,12 @@ def old_flag(share):
 
 
 def check_sealed():
-    """Checks that Electrum combines a quorum of a backup, and one of the backup into which it is split anew, to one encrypted secret."""
+    """Checks that Electrum combines quorums to the encrypted secrets that are right: of the cases that ask for one, and of each backup that
+    is split anew together with the new one."""
     asked, wanted = [], []
-    for id, quorums, encrypted in resplits.sealed():
+    for id, quorums, value in [*encrypted.sealed(), *resplits.sealed()]:
         asked += [("combine", {"mnemonics": list(map(old_flag, quorum))}) for quorum in quorums]
-        wanted += [(id, {"encrypted": encrypted.hex()})] * len(quorums)
+        wanted += [(id, {"encrypted": value.hex()})] * len(quorums)
     found = readers.of_electrum(asked)
     if found is None:
         left_out("Electrum isn't here (Debian: python3-electrum), so it doesn't combine what is split anew")

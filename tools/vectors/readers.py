@@ -54,6 +54,13 @@ def library(shamir, case):
             return {"secret": shamir.recover(given["mnemonics"], passphrase=given["passphrase"]).hex()}
         if case.asks == "quorums":
             return {"quorums": [of_outcome(shamir, outcome) for outcome in shamir.drill(given["mnemonics"], passphrase=given["passphrase"])]}
+        if case.asks == "encrypted":
+            found = shamir.encrypted(given["mnemonics"])
+            numbers = {"identifier": found.id, "extendable": found.extendable, "exponent": found.exponent}
+            return {"encrypted": numbers | {"value": found.value.hex()}}
+        if case.asks == "decrypt":
+            kept = shamir.EncryptedSecret(given["identifier"], given["extendable"], given["exponent"], bytes.fromhex(given["value"]))
+            return {"secret": shamir.decrypt(kept, passphrase=given["passphrase"]).hex()}
         if case.asks == "resplit":
             return {"mnemonics": shamir.resplit(given["plan"], given["mnemonics"], random=bytes.fromhex(given["random"]))}
         options = {name: given[name] for name in ("passphrase", "exponent", "extendable")}
@@ -81,7 +88,9 @@ def words_and_input(case):
 
 
 def of_program(program, case):
-    """Returns what the program answers, or None for an empty mnemonic, which is no line of an input."""
+    """Returns what the program answers, or None for an empty mnemonic, which is no line of an input, and for what no command does."""
+    if case.asks in ("encrypted", "decrypt"):
+        return None
     if case.asks == "resplit":
         return of_resplit(program, case)
     words, data = words_and_input(case)

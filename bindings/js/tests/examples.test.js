@@ -5,7 +5,7 @@ import test from "node:test";
 import { load, OF_GROUPS } from "../shamir.js";
 import * as given from "./given.js";
 import { FIVE, FIVE_QUORUMS, MISMATCHED, MISMATCHED_GROUPS, ONE, PLAN, SECRET, TWO, TWO_SECRET } from "./given.js";
-import { EXTENDABLE, SPLIT_ANEW, bytesOf, counting, file, ofHex, shamir } from "./given.js";
+import { ENCRYPTED, EXTENDABLE, SPLIT_ANEW, bytesOf, counting, file, ofHex, shamir } from "./given.js";
 
 const KEY = { passphrase: "TREZOR" };
 
@@ -58,6 +58,21 @@ test("recover, compared with the fingerprint that is expected", () => {
   }
   for (const [passphrase, expect] of [["TREZOr", "df41d8fe"], ["TREZOR", "df41d8ff"]]) {
     assert.throws(() => shamir.recover(FIVE, { passphrase, expect }), { code: 52, line: null, details: [0, 0], text: "other secret" });
+  }
+});
+
+test("encrypted and decrypt", () => {
+  const secrets = [SECRET, TWO_SECRET, SECRET, ofHex("48b1a4b80b8c209ad42c33672bdaa428")];
+  for (const [i, lines] of [ONE, TWO, FIVE, EXTENDABLE].entries()) {
+    const kept = shamir.encrypted(lines);
+    assert.deepEqual(kept, ENCRYPTED[i]);
+    assert.deepEqual(shamir.decrypt(kept, KEY), secrets[i]);
+    for (const passphrase of ["", "trezor"]) assert.deepEqual(shamir.decrypt(kept, { passphrase }), shamir.recover(lines, { passphrase }));
+  }
+  assert.deepEqual(shamir.encrypted(bytesOf(FIVE.slice(3).join("\n"))), ENCRYPTED[2]);
+  for (const expect of ["df41d8fe", bytesOf("DF41d8fe"), undefined]) assert.deepEqual(shamir.decrypt(ENCRYPTED[0], { ...KEY, expect }), SECRET);
+  for (const options of [{ ...KEY, expect: "df41d8ff" }, { expect: "df41d8fe" }]) {
+    assert.throws(() => shamir.decrypt(ENCRYPTED[0], options), { code: 52, line: null, details: [0, 0], text: "other secret" });
   }
 });
 

@@ -54,6 +54,14 @@ export const SPLIT_ANEW = [
 export const EXTENDABLE_FORGED =
   "enemy favorite academic always acid sniff script carpet romp kind promise scatter center unfair training emphasis evening crisis gasoline making";
 
+// Another program computed the encrypted secrets of ONE, TWO, FIVE and EXTENDABLE.
+export const ENCRYPTED = [
+  { id: 7945, extendable: false, exponent: 0, value: ofHex("11bc609d21747c49ba78c0701293e417") },
+  { id: 25653, extendable: false, exponent: 2, value: ofHex("cdc017fddc829e791b1371780be0605a") },
+  { id: 1, extendable: false, exponent: 0, value: ofHex("ae3283670d8226e104447ff0a4a32f69") },
+  { id: 9066, extendable: true, exponent: 0, value: ofHex("644c905b0c4da21692f06fff3ed8b3e1") },
+];
+
 /** The file of a path below the top of the repository. */
 export function file(path) {
   return readFileSync(new URL(path, ROOT));

@@ -3,7 +3,7 @@ import assert from "node:assert/strict";
 import test from "node:test";
 import { Refusal } from "../shamir.js";
 import { FIVE, FIVE_QUORUMS, Instance, MISMATCHED, ONE, PLAN, SECRET, TWO } from "./given.js";
-import { EXTENDABLE, bytesOf, counting, file, hex, instances, module, refused, shamir } from "./given.js";
+import { ENCRYPTED, EXTENDABLE, bytesOf, counting, file, hex, instances, module, refused, shamir } from "./given.js";
 
 const [{ exports }] = instances;
 const FRESH = memoryOf(new Instance(module));
@@ -35,6 +35,11 @@ const CALLS = {
   "recover, compared": () => shamir.recover(FIVE, { passphrase: "TREZOR", expect: "df41d8fe" }),
   "recover, refused for another secret": () => shamir.recover(FIVE, { passphrase: "TREZOR", expect: "00000000" }),
   "recover, refused passphrase": () => shamir.recover(FIVE, { passphrase: "TREZOR\x07" }),
+  encrypted: () => shamir.encrypted(FIVE),
+  "encrypted, refused": () => shamir.encrypted(MISMATCHED),
+  decrypt: () => shamir.decrypt(ENCRYPTED[0], { passphrase: "TREZOR", expect: "df41d8fe" }),
+  "decrypt, refused": () => shamir.decrypt(ENCRYPTED[0], { passphrase: "TREZOR\x07" }),
+  "decrypt, refused for another secret": () => shamir.decrypt(ENCRYPTED[0], { passphrase: "TREZOR", expect: "00000000" }),
   drill: () => [...shamir.drill(FIVE, { passphrase: "TREZOR" })],
   "drill, fingerprints": () => [...shamir.drill(FIVE, { passphrase: "TREZOR", fingerprints: true })],
   "drill, compared": () => [...shamir.drill(FIVE, { passphrase: "TREZOR", expect: "df41d8fe" })],
@@ -153,6 +158,9 @@ test("copies of arguments and of the output are cleared", () => {
   const created = cleared(() => shamir.create(PLAN, SECRET, { passphrase, random: counting(26) }));
   for (const bytes of [SECRET, counting(26)]) assert.ok(created.includes(Buffer.from(bytes).toString("latin1")));
   for (const text of ["TREZOR", FIVE.join("\n") + "\n", ...FIVE]) assert.ok(created.includes(text));
+  const decrypted = cleared(() => shamir.decrypt(ENCRYPTED[0], { passphrase }));
+  for (const bytes of [passphrase, ENCRYPTED[0].value]) assert.ok(decrypted.includes(Buffer.from(bytes).toString("latin1")));
+  assert.ok(cleared(() => shamir.encrypted(FIVE)).includes(FIVE.join("\n") + "\n"));
   assert.ok(cleared(() => shamir.fingerprint(SECRET)).includes("df41d8fe"));
   assert.ok(cleared(() => shamir.status(FIVE)).some((text) => text.includes("group 0 members 3 of 2 0.0+0.1+0.2\n")));
   const split = cleared(() => shamir.resplit("1of1", EXTENDABLE, { random: Uint8Array.of(0x12, 0x34) }));

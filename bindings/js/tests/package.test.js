@@ -3,7 +3,7 @@ import assert from "node:assert/strict";
 import test from "node:test";
 import { Code, open, Refusal, refusalOf } from "../index.js";
 import { InWorker } from "../worker.js";
-import { EXTENDABLE, FIVE, FIVE_QUORUMS, ONE, PLAN, SECRET, SPLIT_ANEW, TWO, TWO_SECRET, counting, refused } from "./given.js";
+import { ENCRYPTED, EXTENDABLE, FIVE, FIVE_QUORUMS, ONE, PLAN, SECRET, SPLIT_ANEW, TWO, TWO_SECRET, counting, refused } from "./given.js";
 
 const MODULE = new URL(`../../../${process.env.SHAMIR_MODULE ?? "shamir32.wasm"}`, import.meta.url);
 const KEY = { passphrase: "TREZOR" };
@@ -31,6 +31,9 @@ test("each call in a worker", async () => {
   const shamir = new InWorker(MODULE);
   assert.deepEqual(await shamir.create(PLAN, SECRET, { ...KEY, random: counting(26) }), FIVE);
   assert.deepEqual(await shamir.recover(new Set(FIVE), KEY), SECRET);
+  const kept = await shamir.encrypted(new Set(FIVE));
+  assert.deepEqual(kept, ENCRYPTED[2]);
+  assert.deepEqual(await shamir.decrypt(kept, { ...KEY, expect: "df41d8fe" }), SECRET);
   const names = [];
   for await (const outcome of shamir.drill(FIVE, { ...KEY, expect: "df41d8fe", after: FIVE_QUORUMS[0] })) {
     assert.equal(outcome.expected, true);

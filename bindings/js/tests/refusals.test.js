@@ -3,7 +3,7 @@ import assert from "node:assert/strict";
 import test from "node:test";
 import { Code, EXPONENT_MAX, OF_GROUPS, Refusal } from "../shamir.js";
 import { FIVE, MISMATCHED, MISMATCHED_GROUPS, ONE, PLAN, SECRET, TWO } from "./given.js";
-import { EXTENDABLE, EXTENDABLE_FORGED, counting, file, refused, shamir } from "./given.js";
+import { ENCRYPTED, EXTENDABLE, EXTENDABLE_FORGED, counting, file, refused, shamir } from "./given.js";
 
 // Another program made these mnemonics. They are ONE with a group count of 16, and with the changes that the words of the table
 // name.
@@ -22,6 +22,7 @@ const BAD_GROUP_THRESHOLD = "duckling enlarge acrobat academic agency result len
 
 const none = { random: new Uint8Array() };
 const drill = (...given) => [...shamir.drill(...given)];
+const decrypt = (fields, options) => shamir.decrypt({ ...ENCRYPTED[0], ...fields }, options);
 
 // A code, the line, the details, the text, and a call.
 const REFUSALS = [
@@ -74,6 +75,20 @@ const REFUSALS = [
   [51, null, [OF_GROUPS, 0], "digest mismatch of groups", () => shamir.recover(MISMATCHED_GROUPS)],
   [51, null, [0, 0], "digest mismatch in group 0", () => shamir.reissue("2of3", "0.2", MISMATCHED)],
   [52, null, [0, 0], "other secret", () => shamir.recover(ONE, { expect: "df41d8fe" })],
+  [11, 2, [1, 0], "unknown word 1", () => shamir.encrypted("\nx")],
+  [21, 2, [0, 0], "other identifier", () => shamir.encrypted([ONE, TWO[0]])],
+  [29, null, [0, 0], "no shares", () => shamir.encrypted("# a note")],
+  [30, null, [1, 2], "incomplete: 1 of 2 groups", () => shamir.encrypted(FIVE.slice(3, 4))],
+  [51, null, [0, 0], "digest mismatch in group 0", () => shamir.encrypted(MISMATCHED)],
+  [51, null, [OF_GROUPS, 0], "digest mismatch of groups", () => shamir.encrypted(MISMATCHED_GROUPS)],
+  ...[{ id: 32768 }, { id: 65535 }, { exponent: 16 }, { exponent: 255 }].map((fields) => [
+    2, null, [0, 0], "number out of range", () => decrypt({ ...fields, value: counting(0) }, { passphrase: "a\x07", expect: "x" })
+  ]),
+  [44, null, [0, 0], "bad fingerprint", () => decrypt({ value: counting(15) }, { passphrase: "a\x07", expect: "x" })],
+  [44, null, [0, 0], "bad fingerprint", () => decrypt({ value: counting(15) }, { expect: "" })],
+  [41, null, [2, 0], "passphrase byte 2 not printable", () => decrypt({ value: counting(15) }, { passphrase: "a\x07", expect: "df41d8fe" })],
+  ...[0, 15, 17, 130].map((count) => [42, null, [count, 0], `secret of ${count} bytes`, () => decrypt({ value: counting(count) }, { expect: "df41d8fe" })]),
+  [52, null, [0, 0], "other secret", () => decrypt({}, { expect: "df41d8fe" })],
   [61, null, [0, 0], "bad cursor", () => drill(FIVE, { after: "0.1+", expect: "x" })],
   [61, null, [0, 0], "bad cursor", () => drill(FIVE, { after: "0.1+" })],
   [61, null, [0, 0], "bad cursor", () => drill(FIVE, { after: "" })],

@@ -2,7 +2,7 @@
 import assert from "node:assert/strict";
 import test from "node:test";
 import vm from "node:vm";
-import { FIVE, ONE, PLAN, SECRET, TWO } from "./given.js";
+import { ENCRYPTED, FIVE, ONE, PLAN, SECRET, TWO } from "./given.js";
 import { bytesOf, counting, load, refused, shamir } from "./given.js";
 
 /** A byte array that says of itself that it is another one. */
@@ -69,6 +69,15 @@ test("wrong types are TypeErrors", () => {
     () => shamir.recover(ONE, { maxExponent: "15" }),
     () => shamir.recover(FIVE, { expect: 0xdf41d8fe }),
     () => shamir.recover(FIVE, { expect: null }),
+    () => shamir.encrypted(6),
+    () => shamir.decrypt(),
+    () => shamir.decrypt(null),
+    () => shamir.decrypt(SECRET),
+    () => shamir.decrypt(shamir.parse(ONE)),
+    ...[{ id: "1" }, { id: null }, { extendable: 1 }, { exponent: "0" }, { value: "00" }, { value: [1] }, { label: "" }].map(
+      (fields) => () => shamir.decrypt({ ...ENCRYPTED[0], ...fields })
+    ),
+    () => shamir.decrypt(ENCRYPTED[0], { expect: null }),
     () => shamir.drill(FIVE, { expect: null }),
     () => shamir.drill(FIVE, { expect: "df41d8fe", fingerprints: true }),
     () => shamir.drill(FIVE, { after: 0 }),
@@ -99,6 +108,7 @@ test("options are named, and each name is known", () => {
     () => shamir.create(PLAN, SECRET, { max_exponent: 1 }),
     () => shamir.drill(FIVE, { limit: 1 }),
     () => shamir.resplit(PLAN, FIVE, { passphrase: "TREZOR" }),
+    () => shamir.decrypt(ENCRYPTED[0], { passphrase: "TREZOR", maxExponent: 1 }),
   ]) {
     assert.throws(call, (error) => error instanceof TypeError && !/TREZOR|passphase/.test(error.message), call.toString());
   }
@@ -111,6 +121,7 @@ test("numbers out of range are RangeErrors", () => {
     ...[2 ** 32, -1, 0.5, NaN].map((maxExponent) => () => shamir.recover(ONE, { maxExponent })),
     ...[2 ** 32, -1].map((maxExponent) => () => shamir.drill(ONE, { maxExponent })),
     ...[2 ** 53, -16, 16.5, NaN, -Infinity].map((length) => () => shamir.randomNeeded(PLAN, length)),
+    ...[{ id: 65536 }, { id: -1 }, { exponent: 256 }, { exponent: 0.5 }].map((fields) => () => shamir.decrypt({ ...ENCRYPTED[0], ...fields })),
     () => shamir.text({ code: 2 ** 32, details: [0, 0] }),
     () => shamir.text({ code: 11, details: [-1, 0] }),
     () => shamir.text({ code: 66, details: [1, 2 ** 53] }),
@@ -130,6 +141,8 @@ test("a string that UTF-8 can't encode is a RangeError", () => {
       () => shamir.words(text),
       () => shamir.drill(FIVE, { after: text }),
       () => shamir.recover(FIVE, { expect: text }),
+      () => shamir.encrypted([ONE, text]),
+      () => shamir.decrypt(ENCRYPTED[0], { passphrase: text }),
       () => shamir.drill(FIVE, { expect: text }),
     ]) {
       assert.throws(call, (error) => error instanceof RangeError && !error.message.includes("TREZOR"), call.toString());
@@ -171,6 +184,7 @@ test("an array that was transferred elsewhere isn't empty", () => {
     () => shamir.fingerprint(secret),
     () => shamir.status(lines),
     () => shamir.status([ONE, lines]),
+    () => shamir.decrypt({ ...ENCRYPTED[0], value: secret }),
   ]) {
     assert.throws(call, TypeError, call.toString());
   }

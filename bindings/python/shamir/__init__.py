@@ -44,8 +44,9 @@ import pathlib
 from dataclasses import dataclass, field
 from typing import Any, Callable, Generator, Iterable, List, Optional, Tuple, Union, cast
 
-__all__ = ["Code", "Data", "EXPONENT_MAX", "GroupStatus", "Lines", "OF_GROUPS", "Outcome", "Refusal", "Share", "Status", "Text"]
-__all__ += ["create", "drill", "fingerprint", "library_version", "parse", "quorums", "random_needed", "recover"]
+__all__ = ["Code", "Data", "EXPONENT_MAX", "EncryptedSecret", "GroupStatus", "Lines", "OF_GROUPS", "Outcome", "Refusal"]
+__all__ += ["Share", "Status", "Text"]
+__all__ += ["create", "decrypt", "drill", "encrypted", "fingerprint", "library_version", "parse", "quorums", "random_needed", "recover"]
 __all__ += ["reissue", "repair", "resplit", "status", "words"]
 
 __version__ = "1.0.0"
@@ -210,6 +211,13 @@ class _Share(ctypes.Structure):
     ]
 
 
+class _Parameters(ctypes.Structure):
+    id: int
+    extendable: int
+    exponent: int
+    _fields_ = [("id", ctypes.c_uint16), ("extendable", ctypes.c_uint8), ("exponent", ctypes.c_uint8)]
+
+
 _SLICE = [ctypes.c_char_p, ctypes.c_size_t]
 _ROOM = [ctypes.c_void_p, ctypes.c_size_t]
 _Call = Callable[[Any, int], Any]
@@ -241,6 +249,8 @@ def _declared(library: ctypes.CDLL) -> ctypes.CDLL:
         ("shamir_random_needed", _SLICE + [ctypes.c_size_t]),
         ("shamir_create", _SLICE * 3 + [ctypes.c_uint32] * 2 + _SLICE + _ROOM),
         ("shamir_recover", _SLICE * 2 + [ctypes.c_uint32] + _SLICE + _ROOM),
+        ("shamir_encrypted", _SLICE + [ctypes.POINTER(_Parameters)] + _ROOM),
+        ("shamir_decrypt", [ctypes.POINTER(_Parameters)] + _SLICE * 3 + _ROOM),
         ("shamir_drill", _SLICE * 2 + [ctypes.c_uint32] + _SLICE + [ctypes.c_uint32] * 2 + _SLICE + _ROOM),
         ("shamir_status", _SLICE + _ROOM),
         ("shamir_quorums", _SLICE),
@@ -294,6 +304,21 @@ class Share:
     group_count: int
     member_index: int
     member_threshold: int
+    value: bytes = field(repr=False)
+
+
+@dataclass(frozen=True)
+class EncryptedSecret:
+    """The encrypted secret of a backup, and the parameters that decrypt it together with the passphrase.
+
+    `id` is the identifier of the backup, 0 to 32767, and `exponent` the iteration exponent, 0 to 15. `value` is as long as the
+    secret. Whoever has it can test guesses of the passphrase, and without a passphrase it is as secret as the secret itself. The
+    repr leaves it out.
+    """
+
+    id: int
+    extendable: bool
+    exponent: int
     value: bytes = field(repr=False)
 
 
@@ -521,8 +546,9 @@ def recover(
     starts with #, after any spaces, tabs and carriage returns. A line has at most 1,024 bytes without its line feed,
     even if it is a comment. A line of an iterable may end with a line feed; another line feed in it raises ValueError.
 
-    `expect` is the fingerprint that the secret should have: eight hexadecimal digits, in lower or upper case. A secret with
-    another fingerprint is refused (52). If `expect` is None, a wrong passphrase isn't detected: it gives another secret.
+    `expect` is the fingerprint that the secret should have: eight hexadecimal digits, in lower or upper case. An empty one is
+    refused (44), and a secret with another fingerprint too (52). If `expect` is None, a wrong passphrase isn't detected: it
+    gives another secret.
 
     The exponent of the mnemonics determines how long the call takes: 10,000 * 2^exponent iterations of PBKDF2, and
     twice as many for a secret of more than 64 bytes. With the exponent 15 these take minutes. If the mnemonics have a
@@ -533,6 +559,39 @@ def recover(
     options = _slice(_bytes(passphrase)) + (_number(max_exponent, ctypes.c_uint32),) + _slice(_expected(expect))
     given = _slice(_joined(lines)) + options
     return _filled(lambda out, room: _library.shamir_recover(*given, out, room), SECRET_BYTES_MAX)
+
+
+def encrypted(lines: Lines) -> EncryptedSecret:
+    """Combine the first quorum of mnemonics, in the order of `drill`, to the encrypted secret, and return it with its parameters.
+
+    >>> kept = shamir.encrypted(mnemonics[1:])
+    >>> shamir.decrypt(kept, passphrase="TREZOR") == secret
+    True
+
+    `lines` is as for `recover`, which gives what `decrypt` gives of the result. The call needs no passphrase, and makes no
+    iterations. So a program can keep the encrypted secret in place of the mnemonics, and ask for the passphrase each time.
+
+    Raises `Refusal` with one of the codes 11 to 30, 51 or 71.
+    """
+    given, found = _slice(_joined(lines)), _Parameters()
+    value = _filled(lambda out, room: _library.shamir_encrypted(*given, ctypes.byref(found), out, room), SECRET_BYTES_MAX)
+    return EncryptedSecret(found.id, bool(found.extendable), found.exponent, value)
+
+
+def decrypt(secret: EncryptedSecret, *, passphrase: Text = b"", expect: Optional[Text] = None) -> bytes:
+    """Decrypt what `encrypted` gave, and return the secret.
+
+    `passphrase` and `expect` are as for `recover`. The call takes the iterations of `recover`, and no `max_exponent`: the exponent is
+    a field of the encrypted secret.
+
+    Raises `Refusal` with one of the codes 2 (a field is out of range), 41, 42, 44 or 52.
+    """
+    if not isinstance(secret, EncryptedSecret):
+        raise TypeError(f"an encrypted secret isn't of type {type(secret).__name__}")
+    numbers = _number(secret.id, ctypes.c_uint16), _flag(secret.extendable), _number(secret.exponent, ctypes.c_uint8)
+    given = _slice(_data(secret.value)) + _slice(_bytes(passphrase)) + _slice(_expected(expect))
+    parameters = _Parameters(*numbers)
+    return _filled(lambda out, room: _library.shamir_decrypt(ctypes.byref(parameters), *given, out, room), SECRET_BYTES_MAX)
 
 
 def drill(

@@ -1,6 +1,7 @@
 """Tests the binding with worked examples. Run these tests with `python3 -m unittest discover -s bindings/python/tests`."""
 import array
 import ctypes
+import dataclasses
 import hashlib
 import hmac
 import inspect
@@ -68,6 +69,13 @@ SPLIT_ANEW = [
     "academic apart ceramic leader alien hamster grasp strike jacket install artwork sidewalk sack fridge venture security method hairy ruin universe",
 ]
 EXTENDABLE_FORGED = "enemy favorite academic always acid sniff script carpet romp kind promise scatter center unfair training emphasis evening crisis gasoline making"
+# Another program computed these encrypted secrets of ONE, TWO, FIVE and EXTENDABLE.
+ENCRYPTED = [
+    (ONE, shamir.EncryptedSecret(7945, False, 0, bytes.fromhex("11bc609d21747c49ba78c0701293e417")), SECRET),
+    (TWO, shamir.EncryptedSecret(25653, False, 2, bytes.fromhex("cdc017fddc829e791b1371780be0605a")), bytes.fromhex("b43ceb7e57a0ea8766221624d01b0864")),
+    (FIVE, shamir.EncryptedSecret(1, False, 0, bytes.fromhex("ae3283670d8226e104447ff0a4a32f69")), SECRET),
+    (EXTENDABLE, shamir.EncryptedSecret(9066, True, 0, bytes.fromhex("644c905b0c4da21692f06fff3ed8b3e1")), bytes.fromhex("48b1a4b80b8c209ad42c33672bdaa428")),
+]
 # With these random bytes, 2of3 gives the two mnemonics of TWO in reverse order, and one between them.
 TWO_RANDOM = bytes.fromhex("64359164e7a006aadd75179d6d5c")
 ROOT = pathlib.Path(__file__).resolve().parents[3]
@@ -169,6 +177,61 @@ class WorkedExamples(unittest.TestCase):
         self.refused(30, None, (0, 1), shamir.recover, TWO[:1])
         self.refused(21, 2, (0, 0), shamir.recover, [ONE, TWO[0]])
         self.refused(71, 1, (0, 0), shamir.recover, "#" * 1025)
+
+    def test_encrypted(self):
+        for lines, kept, _ in ENCRYPTED:
+            self.assertEqual(shamir.encrypted(lines), kept)
+        kept = ENCRYPTED[2][1]
+        for lines in ("\n".join(FIVE[3:]).encode(), ["# a note", *FIVE[::-1]], [*FIVE[:2], FORGED[1], *FIVE[3:]]):
+            self.assertEqual(shamir.encrypted(lines), kept)
+        # The first quorum is taken, and no other one is tried.
+        self.refused(51, None, (0, 0), shamir.encrypted, [FORGED[0], *FIVE[1:]])
+        self.refused(51, None, (16, 0), shamir.encrypted, MISMATCHED_GROUPS)
+        self.refused(30, None, (0, 1), shamir.encrypted, TWO[:1])
+        self.refused(29, None, (0, 0), shamir.encrypted, "# a note")
+        self.refused(21, 2, (0, 0), shamir.encrypted, [ONE, TWO[0]])
+        self.refused(13, 1, (0, 0), shamir.encrypted, ONE.replace("keyboard", "kidney"))
+        self.refused(71, 1, (0, 0), shamir.encrypted, "#" * 1025)
+        self.assertEqual(repr(kept), "EncryptedSecret(id=1, extendable=False, exponent=0)")
+        text, parameters = "\n".join(FIVE).encode(), shamir._Parameters(7, 7, 7)
+        for lines, room in [(text, 15), (b"x", 128), (b"", 128)]:
+            value = ctypes.create_string_buffer(room)
+            answer = shamir._library.shamir_encrypted(lines, len(lines), parameters, value, room)
+            self.assertEqual((answer.code != 0, bytes(parameters), value.raw), (True, b"\7\0\7\7", bytes(room)))
+
+    def test_decrypt(self):
+        for lines, kept, secret in ENCRYPTED:
+            self.assertEqual(shamir.decrypt(kept, passphrase="TREZOR"), secret)
+            for key in ("", "trezor"):
+                self.assertEqual(shamir.decrypt(kept, passphrase=key), shamir.recover(lines, passphrase=key))
+        kept = ENCRYPTED[0][1]
+        for noted in ["df41d8fe", "DF41D8fe", b"df41d8fe", None]:
+            self.assertEqual(shamir.decrypt(kept, passphrase="TREZOR", expect=noted), SECRET)
+        self.refused(52, None, (0, 0), shamir.decrypt, kept, passphrase="TREZOR", expect="df41d8ff")
+        self.refused(52, None, (0, 0), shamir.decrypt, kept, expect="df41d8fe")
+        for value in odd(kept.value):
+            self.assertEqual(shamir.decrypt(dataclasses.replace(kept, value=value), passphrase="TREZOR"), SECRET)
+
+    def test_what_decrypt_refuses(self):
+        """The parameters are judged first, then the fingerprint, the passphrase and the length."""
+        kept = ENCRYPTED[0][1]
+        wrong = {"passphrase": "a\x07", "expect": "df41d8f"}
+        for field, number in [("id", 32768), ("id", 65535), ("exponent", 16), ("exponent", 255)]:
+            self.refused(2, None, (0, 0), shamir.decrypt, dataclasses.replace(kept, value=b"", **{field: number}), **wrong)
+        short = dataclasses.replace(kept, value=bytes(15))
+        self.refused(44, None, (0, 0), shamir.decrypt, short, **wrong)
+        self.refused(44, None, (0, 0), shamir.decrypt, short, expect="")
+        self.refused(41, None, (2, 0), shamir.decrypt, short, passphrase="a\x07", expect="df41d8fe")
+        for length in (0, 15, 17, 130):
+            self.refused(42, None, (length, 0), shamir.decrypt, dataclasses.replace(kept, value=bytes(length)), expect="df41d8fe")
+        for field, number in [("id", 65536), ("id", -1), ("exponent", 256), ("exponent", -1)]:
+            self.assertRaises(OverflowError, shamir.decrypt, dataclasses.replace(kept, **{field: number}))
+        for changed in [{"id": 1.0}, {"extendable": 1}, {"exponent": None}, {"value": kept.value.hex()}, {"value": list(kept.value)}]:
+            self.assertRaises(TypeError, shamir.decrypt, dataclasses.replace(kept, **changed))
+        # A share has the same fields and more.
+        for other in (shamir.parse(ONE), kept.value, ONE, None):
+            self.assertRaises(TypeError, shamir.decrypt, other)
+        self.assertRaises(TypeError, lambda: shamir.decrypt(kept, "TREZOR"))
 
     def test_drill(self):
         names = ["0.0+0.1+1.0", "0.0+0.1+2.0", "0.0+0.2+1.0", "0.0+0.2+2.0", "0.1+0.2+1.0", "0.1+0.2+2.0", "1.0+2.0"]
@@ -434,6 +497,8 @@ class WorkedExamples(unittest.TestCase):
             (16, lambda *room: library.shamir_parse(one, len(one), shamir._Share(), *room)),
             (715, lambda *room: library.shamir_create(PLAN.encode(), 16, SECRET, 16, *key, 0, 0, bytes(range(26)), 26, *room)),
             (16, lambda *room: library.shamir_recover(text, len(text), *key, 0, b"df41d8fe", 8, *room)),
+            (16, lambda *room: library.shamir_encrypted(text, len(text), shamir._Parameters(), *room)),
+            (16, lambda *room: library.shamir_decrypt(shamir._Parameters(1, 0, 0), bytes(16), 16, *key, None, 0, *room)),
             (41, lambda *room: library.shamir_status(one, len(one), *room)),
             (144, lambda *room: library.shamir_reissue(PLAN.encode(), 16, b"0.1", 3, text, len(text), *room)),
             (144, lambda *room: library.shamir_resplit(b"1of1", 4, extendable, len(extendable), b"\x12\x34", 2, *room)),
@@ -521,6 +586,7 @@ class WorkedExamples(unittest.TestCase):
                 lambda: shamir.create("1of1", gone),
                 lambda: shamir.create("1of1", SECRET, random=gone),
                 lambda: shamir.recover(ONE, passphrase=gone),
+                lambda: shamir.decrypt(dataclasses.replace(ENCRYPTED[0][1], value=gone)),
                 lambda: shamir.recover(gone),
                 lambda: shamir.recover([ONE, gone]),
                 lambda: shamir.parse(gone),
@@ -553,6 +619,8 @@ class WorkedExamples(unittest.TestCase):
                 lambda: shamir.reissue(PLAN, "0.0", [bad]),
                 lambda: shamir.resplit(bad, FIVE),
                 lambda: shamir.resplit(PLAN, [bad]),
+                lambda: shamir.encrypted(bad),
+                lambda: shamir.decrypt(ENCRYPTED[0][1], passphrase=bad),
             ]:
                 with self.assertRaises(ValueError) as raised:
                     call()
@@ -726,6 +794,8 @@ class WorkedExamples(unittest.TestCase):
     def test_null(self):
         library = shamir._library
         self.assertEqual(library.shamir_recover(None, 0, None, 0, 0, None, 0, None, 0).code, 29)
+        self.assertEqual(library.shamir_encrypted(None, 0, shamir._Parameters(), None, 0).code, 29)
+        self.assertEqual(library.shamir_decrypt(shamir._Parameters(), None, 0, None, 0, None, 0, None, 0).code, 42)
         self.assertEqual(library.shamir_version(None, 0).first, 5)
         self.assertEqual(library.shamir_random_needed(None, 0, 16).code, 31)
         self.assertEqual(library.shamir_parse(None, 0, shamir._Share(), None, 0).code, 12)

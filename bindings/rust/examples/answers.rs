@@ -2,10 +2,8 @@
 //!
 //! Each line of the input is a command and its values. A value is a point and hexadecimal digits, or `-` for none. Each line of the
 //! output has what the command writes to standard output and to standard error, both in this form.
-use shamir::{
-    CreateOptions, Drill, Error, Found, Plan, RecoverOptions, Secret, Share, Status, create, create_with, fingerprint, parse,
-    recover, reissue, repair, resplit, status, words,
-};
+use shamir::{CreateOptions, DecryptOptions, Drill, EncryptedSecret, Error, Found, Plan, RecoverOptions, Secret, Share, Status};
+use shamir::{create, create_with, decrypt, encrypted, fingerprint, parse, recover, reissue, repair, resplit, status, words};
 use std::fmt::Write;
 use std::io::{self, BufRead};
 
@@ -67,6 +65,18 @@ fn recovered(lines: &[u8], options: &RecoverOptions<'_>, as_fingerprint: bool) -
     Ok(if as_fingerprint { format!("{}\n", fingerprint(&secret)) } else { format!("{}\n", hex(secret.as_bytes())) })
 }
 
+fn kept(secret: &EncryptedSecret) -> String {
+    let EncryptedSecret { id, extendable, exponent, value } = secret;
+    let digits = hex(value.as_bytes());
+    format!("identifier {id} extendable {} exponent {exponent} value {digits}\n", u8::from(*extendable))
+}
+
+fn decrypted(secret: &EncryptedSecret, passphrase: &[u8], expected: &Value) -> Result<String, Error> {
+    let options = DecryptOptions::new().passphrase(passphrase);
+    let options = expected.as_ref().map_or(options, |expected| options.expected(expected));
+    Ok(format!("{}\n", hex(decrypt(secret, &options)?.as_bytes())))
+}
+
 fn drilled(drill: Drill<'_>, limit: usize) -> Result<String, Error> {
     let (mut listed, mut last) = (String::new(), None);
     for (place, outcome) in drill.enumerate() {
@@ -116,6 +126,13 @@ fn answer(command: &str, values: &[Value]) -> Result<String, Error> {
         }
         ("recover", [passphrase, _, as_fingerprint, lines]) => {
             recovered(lines, &options(passphrase, &values[1]), !as_fingerprint.is_empty())
+        }
+        ("encrypted", [lines]) => Ok(kept(&encrypted(lines)?)),
+        ("decrypt", [id, extendable, exponent, passphrase, _, value]) => {
+            let small = |digits| u8::try_from(number(digits)).expect("a byte");
+            let id = u16::try_from(number(id)).expect("two bytes");
+            let (extendable, exponent, value) = (!extendable.is_empty(), small(exponent), Secret::new(value)?);
+            decrypted(&EncryptedSecret { id, extendable, exponent, value }, passphrase, &values[4])
         }
         ("drill", [passphrase, after, _, limit, as_fingerprints, lines]) => {
             let mut drill = Drill::new(lines, &options(passphrase, &values[2]));

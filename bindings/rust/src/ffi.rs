@@ -32,6 +32,15 @@ pub(crate) struct Fields {
     pub(crate) member_threshold: u8,
 }
 
+/// `shamir_parameters`.
+#[repr(C)]
+#[derive(Clone, Copy, Debug, Default)]
+pub(crate) struct Parameters {
+    pub(crate) id: u16,
+    pub(crate) extendable: u8,
+    pub(crate) exponent: u8,
+}
+
 unsafe extern "C" {
     fn shamir_parse(line: *const c_char, line_bytes: usize, share: *mut Fields, value: *mut u8, value_bytes: usize) -> Answer;
     fn shamir_random_needed(plan: *const c_char, plan_bytes: usize, secret_bytes: usize) -> Answer;
@@ -55,6 +64,24 @@ unsafe extern "C" {
         passphrase: *const c_char,
         passphrase_bytes: usize,
         max_exponent: u32,
+        expected: *const c_char,
+        expected_bytes: usize,
+        secret: *mut u8,
+        secret_bytes: usize,
+    ) -> Answer;
+    fn shamir_encrypted(
+        lines: *const c_char,
+        lines_bytes: usize,
+        parameters: *mut Parameters,
+        encrypted: *mut u8,
+        encrypted_bytes: usize,
+    ) -> Answer;
+    fn shamir_decrypt(
+        parameters: *const Parameters,
+        encrypted: *const u8,
+        encrypted_bytes: usize,
+        passphrase: *const c_char,
+        passphrase_bytes: usize,
         expected: *const c_char,
         expected_bytes: usize,
         secret: *mut u8,
@@ -172,6 +199,30 @@ pub(crate) fn recover(lines: &[u8], passphrase: &[u8], max_exponent: u32, expect
             passphrase,
             passphrase_bytes,
             max_exponent,
+            expected,
+            expected_bytes,
+            room.as_mut_ptr(),
+            room.len(),
+        )
+    }
+}
+
+pub(crate) fn encrypted(lines: &[u8], parameters: &mut Parameters, room: &mut [u8]) -> Answer {
+    let (lines, lines_bytes) = of(lines);
+    // SAFETY: "An output buffer or an output struct must not overlap any other argument."
+    unsafe { shamir_encrypted(lines, lines_bytes, parameters, room.as_mut_ptr(), room.len()) }
+}
+
+pub(crate) fn decrypt(parameters: &Parameters, encrypted: &[u8], passphrase: &[u8], expected: &[u8], room: &mut [u8]) -> Answer {
+    let ((passphrase, passphrase_bytes), (expected, expected_bytes)) = (of(passphrase), of(expected));
+    // SAFETY: "An output buffer or an output struct must not overlap any other argument."
+    unsafe {
+        shamir_decrypt(
+            parameters,
+            encrypted.as_ptr(),
+            encrypted.len(),
+            passphrase,
+            passphrase_bytes,
             expected,
             expected_bytes,
             room.as_mut_ptr(),

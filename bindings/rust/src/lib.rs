@@ -40,8 +40,9 @@
 //! # Without an allocator
 //!
 //! The crate uses neither `std` nor another crate. Without the feature `alloc`, which is on by default, it uses no allocator
-//! of Rust either. Then there are [`parse`], [`recover()`], [`status()`], [`quorums()`], [`fingerprint`], [`version()`], and the calls that write into the
-//! caller's room: [`create_into`], [`reissue_into`], [`resplit_into`], [`repair_into`] and [`words_into`].
+//! of Rust either. Then there are [`parse`], [`recover()`], [`encrypted()`], [`decrypt`], [`status()`], [`quorums()`],
+//! [`fingerprint`], [`version()`], and the calls that write into the caller's room: [`create_into`], [`reissue_into`],
+//! [`resplit_into`], [`repair_into`] and [`words_into`].
 //!
 //! # The library
 //!
@@ -67,6 +68,7 @@ mod create;
 mod details;
 #[cfg(feature = "alloc")]
 mod drill;
+mod encrypted;
 mod error;
 mod ffi;
 #[cfg(feature = "alloc")]
@@ -98,6 +100,7 @@ pub use create::{create, create_with};
 pub use details::{Counts, Mismatch};
 #[cfg(feature = "alloc")]
 pub use drill::{Drill, Found, Names, Outcome};
+pub use encrypted::{DecryptOptions, EncryptedSecret, decrypt, encrypted};
 pub use error::Error;
 #[cfg(feature = "alloc")]
 pub use mnemonics::Mnemonics;

@@ -7,11 +7,16 @@ use crate::ffi::Answer;
 use crate::room::Room;
 use crate::text::text_of;
 
+/// It takes the place of an item that isn't one line. If the item began with `#`, the library would take the first line of it for a
+/// comment.
+const NO_LINE: &str = "\u{240a}";
+
 /// Mnemonics, each on a line of one text. They are as secret as the secret itself.
 ///
 /// `Debug` says how many there are. The text is cleared when it is dropped. It is what the calls take that take lines.
 ///
-/// Mnemonics can be collected from lines. An item with a line feed inside it is several lines. So [`recover`](crate::recover())
+/// Mnemonics can be collected from lines, each of which may end with a line feed. An item with a line feed inside it isn't a line.
+/// The calls refuse it ([`Error::UnknownWord`]), because `\u{240a}`, which is no word, takes its place. So [`recover`](crate::recover())
 /// gets a part of a backup:
 ///
 /// ```
@@ -86,7 +91,8 @@ impl<Line: AsRef<str>> FromIterator<Line> for Mnemonics {
         let mut text = Room::default();
         for line in lines {
             let line = line.as_ref();
-            text.push(line.strip_suffix('\n').unwrap_or(line).as_bytes());
+            let line = line.strip_suffix('\n').unwrap_or(line);
+            text.push(if line.contains('\n') { NO_LINE } else { line }.as_bytes());
             text.push(b"\n");
         }
         Mnemonics { text }

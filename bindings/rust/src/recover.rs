@@ -77,13 +77,16 @@ impl<'a> RecoverOptions<'a> {
     /// # }
     /// ```
     pub fn expected<Text: AsRef<[u8]> + ?Sized>(self, fingerprint: &'a Text) -> RecoverOptions<'a> {
-        let expected = match fingerprint.as_ref() {
-            // For the library, an empty text means that nothing is compared. Here it is no fingerprint, so a hyphen, which the library
-            // refuses, takes its place.
-            [] => b"-",
-            digits => digits,
-        };
-        RecoverOptions { expected, ..self }
+        RecoverOptions { expected: expected_of(fingerprint.as_ref()), ..self }
+    }
+}
+
+/// Gives the text of a fingerprint as the library takes it. There, an empty text means that nothing is compared. Here it is no
+/// fingerprint, so a hyphen, which the library refuses, takes its place.
+pub(crate) fn expected_of(fingerprint: &[u8]) -> &[u8] {
+    match fingerprint {
+        [] => b"-",
+        digits => digits,
     }
 }
 

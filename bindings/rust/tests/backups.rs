@@ -6,10 +6,11 @@ use given::{
     EXTENDABLE, FIVE, FIVE_QUORUMS, FOURTH, MISMATCHED, MISMATCHED_GROUPS, MISMATCHED_SECOND, ONE, ONE_SECRET, PLAN, SPLIT_ANEW,
     TWO, TWO_RANDOM, TWO_SECRET, bytes, digits,
 };
-use shamir::{CreateOptions, Drill, Error, Found, Mismatch, Mnemonics, Name, Outcome, Plan, RecoverOptions, Secret};
+use shamir::{CreateOptions, DecryptOptions, Drill, EncryptedSecret, Error, Found, Mismatch};
+use shamir::{Mnemonics, Name, Outcome, Plan, RecoverOptions, Secret};
 use shamir::{
-    create, create_into, create_with, fingerprint, parse, quorums, recover, reissue, reissue_into, repair, repair_into, resplit,
-    resplit_with, status, words,
+    create, create_into, create_with, decrypt, encrypted, fingerprint, parse, quorums, recover, reissue, reissue_into, repair,
+    repair_into, resplit, resplit_with, status, words,
 };
 
 /// The fingerprint of the secret of `ONE`. It is the HMAC-SHA256 by another program.
@@ -120,6 +121,38 @@ fn a_plan_is_read_and_built() {
     assert_eq!(builder(1000).group(0, 1).build(), Err(Error::BadPlan));
     assert_eq!(plan("2of3").random_needed(16), Ok(14));
     assert_eq!(plan("2of3").random_needed(usize::MAX), Err(Error::SecretLength { bytes: u64::MAX }));
+}
+
+/// Another program computed the encrypted secrets.
+#[test]
+fn an_encrypted_secret_is_kept_and_decrypted() {
+    for (lines, (id, extendable, exponent), digits, right) in [
+        (ONE.into(), (7945, false, 0), "11bc609d21747c49ba78c0701293e417", ONE_SECRET),
+        (TWO.join("\n"), (25653, false, 2), "cdc017fddc829e791b1371780be0605a", TWO_SECRET),
+        (FIVE.join("\n"), (1, false, 0), "ae3283670d8226e104447ff0a4a32f69", ONE_SECRET),
+        (FIVE[3..].join("\n"), (1, false, 0), "ae3283670d8226e104447ff0a4a32f69", ONE_SECRET),
+        (EXTENDABLE.join("\n"), (9066, true, 0), "644c905b0c4da21692f06fff3ed8b3e1", "48b1a4b80b8c209ad42c33672bdaa428"),
+    ] {
+        let kept = EncryptedSecret { id, extendable, exponent, value: secret(digits) };
+        assert_eq!(encrypted(&lines).unwrap(), kept);
+        assert_eq!(decrypt(&kept, &DecryptOptions::new().passphrase("TREZOR")).unwrap(), secret(right));
+        for passphrase in ["", "trezor"] {
+            let found = decrypt(&kept, &DecryptOptions::new().passphrase(passphrase));
+            assert_eq!(found.unwrap(), recover(&lines, &RecoverOptions::new().passphrase(passphrase)).unwrap());
+        }
+        assert!(!format!("{kept:?}").contains(&format!("{:?}", kept.value.as_bytes())[1..9]));
+    }
+}
+
+#[test]
+fn a_decrypted_secret_is_compared() {
+    let (kept, options) = (encrypted(ONE).unwrap(), DecryptOptions::new().expected("DF41d8fe"));
+    assert_eq!(decrypt(&kept, &options.passphrase("TREZOR")).unwrap(), secret(ONE_SECRET));
+    assert_eq!(decrypt(&kept, &options).unwrap_err(), Error::OtherSecret);
+    // Options can be set in any order.
+    let options = DecryptOptions::new().passphrase("TREZOR");
+    assert_eq!(decrypt(&kept, &options.expected("df41d8fe")).unwrap(), secret(ONE_SECRET));
+    assert_eq!(decrypt(&kept, &options.expected("df41d8ff")).unwrap_err(), Error::OtherSecret);
 }
 
 #[test]
@@ -344,6 +377,22 @@ fn mnemonics_are_collected_from_lines() {
     assert_eq!(digits(recover(&lines, &trezor()).unwrap().as_bytes()), TWO_SECRET);
     assert!((&lines).into_iter().eq(TWO));
     assert_eq!(format!("{lines:?}"), "Mnemonics(2)");
+}
+
+/// As the packages for Python and JavaScript do, the crate refuses an item that would be several lines.
+#[test]
+fn an_item_is_one_line() {
+    for (items, line) in [
+        (vec![TWO.join("\n")], 1),
+        (vec![TWO[0].into(), format!("{}\n\n", TWO[1])], 2),
+        (vec![TWO[0].into(), TWO[1].into(), format!("# a note\n{ONE}\n")], 3),
+        (vec!["\n\n".into()], 1),
+    ] {
+        let lines: Mnemonics = items.iter().collect();
+        let refused = Error::UnknownWord { line: Some(line), position: 1 };
+        assert_eq!((lines.len(), recover(&lines, &trezor()).unwrap_err()), (items.len(), refused));
+        assert_eq!(status(&lines).unwrap_err(), refused);
+    }
 }
 
 #[test]

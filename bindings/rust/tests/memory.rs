@@ -92,8 +92,8 @@ mod in_heap {
     use super::{LOOKED_FOR, RANDOM, given, left_by};
     use given::{FIVE, ONE, TWO_RANDOM, bytes};
     use shamir::{
-        CreateOptions, Drill, Error, Mnemonics, RecoverOptions, Secret, create, create_with, parse, recover, reissue, repair,
-        resplit_with,
+        CreateOptions, DecryptOptions, Drill, Error, Mnemonics, RecoverOptions, Secret, create, create_with, decrypt, encrypted,
+        parse, recover, reissue, repair, resplit_with,
     };
 
     fn trezor() -> RecoverOptions<'static> {
@@ -104,6 +104,7 @@ mod in_heap {
     fn a_recovery_and_a_share_leave_nothing() {
         assert_eq!(left_by(|| recover(ONE, &trezor()).unwrap()), 0);
         assert_eq!(left_by(|| parse(ONE).unwrap().clone()), 0);
+        assert_eq!(left_by(|| decrypt(&encrypted(ONE).unwrap(), &DecryptOptions::new().passphrase("TREZOR")).unwrap()), 0);
     }
 
     #[test]

@@ -5,7 +5,9 @@ mod given;
 use given::{
     EXTENDABLE as EXTENDABLE_TWO, FIVE, MISMATCHED, MISMATCHED_GROUPS, MISMATCHED_SECOND, ONE, ONE_SECRET, PLAN, TWO, bytes,
 };
-use shamir::{Counts, CreateOptions, Drill, Error, Mismatch, Name, Plan, RecoverOptions, Secret};
+use shamir::{
+    Counts, CreateOptions, DecryptOptions, Drill, EncryptedSecret, Error, Mismatch, Name, Plan, RecoverOptions, Secret,
+};
 use std::collections::BTreeSet;
 
 // Another program made these mnemonics. They are ONE with a group count of 16, and with the changes that the errors name.
@@ -66,6 +68,15 @@ fn reissue(plan: &str, names: &str, lines: &[&str]) -> Error {
 
 fn resplit(plan: &str, lines: &[&str], random: &[u8]) -> Error {
     shamir::resplit(&plan.parse().unwrap(), lines.join("\n"), random).unwrap_err()
+}
+
+fn encrypted(lines: &[&str]) -> Error {
+    shamir::encrypted(lines.join("\n")).unwrap_err()
+}
+
+fn decrypt(id: u16, exponent: u8, options: &DecryptOptions<'_>) -> Error {
+    let value = Secret::new(&bytes("11bc609d21747c49ba78c0701293e417")).unwrap();
+    shamir::decrypt(&EncryptedSecret { id, extendable: false, exponent, value }, options).unwrap_err()
 }
 
 /// Gives the refusals: what a call gives, what is right, the code, and the text after the code.
@@ -176,6 +187,27 @@ fn refusals() -> Vec<(Error, Error, u32, &'static str)> {
             66,
             "cannot tell 2.0: 0 of 1 members, 1 of 2 other groups",
         ),
+        (encrypted(&["", "x"]), Error::UnknownWord { line: Some(2), position: 1 }, 11, "unknown word 1"),
+        (encrypted(&[ONE, TWO[0]]), Error::OtherIdentifier { line: Some(2) }, 21, "other identifier"),
+        (encrypted(&[]), Error::NoShares, 29, "no shares"),
+        (encrypted(&FIVE[3..4]), Error::Incomplete { complete: 1, required: 2 }, 30, "incomplete: 1 of 2 groups"),
+        (
+            encrypted(&MISMATCHED_SECOND),
+            Error::DigestMismatch { mismatch: Mismatch::InGroup { group: 1 } },
+            51,
+            "digest mismatch in group 1",
+        ),
+        (encrypted(&MISMATCHED_GROUPS), Error::DigestMismatch { mismatch: Mismatch::OfGroups }, 51, "digest mismatch of groups"),
+        (decrypt(32768, 0, &DecryptOptions::new().expected("x")), Error::OutOfRange, 2, "number out of range"),
+        (decrypt(7945, 16, &DecryptOptions::new().passphrase("\x07")), Error::OutOfRange, 2, "number out of range"),
+        (decrypt(7945, 0, &DecryptOptions::new().expected("").passphrase("\x07")), Error::BadFingerprint, 44, "bad fingerprint"),
+        (
+            decrypt(7945, 0, &DecryptOptions::new().expected("df41d8fe").passphrase("a\x07")),
+            Error::Passphrase { position: 2 },
+            41,
+            "passphrase byte 2 not printable",
+        ),
+        (decrypt(7945, 0, &DecryptOptions::new().expected("df41d8fe")), Error::OtherSecret, 52, "other secret"),
         (resplit(PLAN, &["x"], &[]), Error::UnknownWord { line: Some(1), position: 1 }, 11, "unknown word 1"),
         (resplit(PLAN, &[], &[]), Error::NoShares, 29, "no shares"),
         (resplit(PLAN, &FIVE[3..4], &[]), Error::Incomplete { complete: 1, required: 2 }, 30, "incomplete: 1 of 2 groups"),

@@ -2,8 +2,9 @@
 mod given;
 
 use given::{EXTENDABLE, FIVE, FOURTH, ONE, ONE_SECRET, SPLIT_ANEW, TWO, TWO_RANDOM, TWO_SECRET, bytes};
-use shamir::{CreateOptions, Error, Plan, RecoverOptions, Secret, Share, fingerprint, parse, recover, status};
+use shamir::{CreateOptions, DecryptOptions, Error, Plan, RecoverOptions, Secret, Share};
 use shamir::{REPAIRED_BYTES_MAX, create_into, reissue_into, repair_into, resplit_into, words_into};
+use shamir::{decrypt, encrypted, fingerprint, parse, recover, status};
 
 fn plan(text: &str) -> Plan {
     text.parse().unwrap()
@@ -19,6 +20,15 @@ fn a_published_backup_is_created_and_recovered() {
     assert_eq!(recover(text, &RecoverOptions::new().passphrase("TREZOR")), Ok(secret));
     let written = text.len();
     assert!(room[written..].iter().all(|&byte| byte == 7));
+}
+
+#[test]
+fn an_encrypted_secret_is_decrypted() {
+    let kept = encrypted(TWO.join("\n")).unwrap();
+    assert_eq!(kept.value.as_bytes(), bytes("cdc017fddc829e791b1371780be0605a"));
+    let options = DecryptOptions::new().passphrase("TREZOR").expected("5f5702dc");
+    assert_eq!(decrypt(&kept, &options), Ok(Secret::new(&bytes(TWO_SECRET)).unwrap()));
+    assert_eq!(encrypted(TWO[0]), Err(Error::Incomplete { complete: 0, required: 1 }));
 }
 
 #[test]

@@ -1,0 +1,66 @@
+"""Cases about encrypted secrets: what mnemonics combine to, and what a passphrase makes of it."""
+import plain
+
+from backups import PASSPHRASE, backup, drawn, flipped, mnemonics
+from case import Case
+
+SHARING = "Shamir's secret sharing"
+ENCRYPTION = "Encryption of the master secret"
+PASSPHRASES = "Passphrase"
+COMBINED = "an encrypted secret that was decrypted, or parameters that belong to another backup"
+
+
+def combining(id, shares, about, finds=COMBINED, standard=SHARING):
+    return Case(id, "encrypted", about, finds, standard, {"mnemonics": mnemonics(shares)})
+
+
+def encrypted_secrets():
+    """Backups of several plans and parameters, whose mnemonics are combined without a passphrase."""
+    for name, plan, options in [
+        ("1of1", "1of1", {"id": 0}), ("3of5", "3of5", {"extendable": True, "id": 32767}), ("groups", "2/2of3,1of1,1of1", {"length": 18}),
+        ("128-bytes", "2of3", {"length": 128, "extendable": True}),
+    ]:
+        shares = list(backup(f"encrypted-{name}", plan, **options).values())
+        yield combining(f"encrypted-{name}", shares, f"All mnemonics of {plan} are there.")
+    for flag in (0, 1):
+        shares = [share | {"exponent": 15} for share in backup(f"encrypted-exponent-{flag}", "2of2", extendable=bool(flag)).values()]
+        yield combining(f"encrypted-exponent-{flag}", shares, f"The flag is {flag}, and the exponent is 15.", "iterations, which no combination takes")
+    shares = list(backup("encrypted-quorum", "2of4").values())
+    wrong = {"value": flipped(shares[3]["value"], 64)}
+    about = "The fourth member is wrong, and isn't in the first quorum."
+    yield combining("encrypted-first-quorum", [*shares[:3], shares[3] | wrong], about, "another quorum than the first", None)
+    yield combining("encrypted-mismatch", [shares[0], shares[1] | {"value": wrong["value"]}], "A value is wrong.", "a digest that isn't compared")
+
+
+def decrypting(id, about, finds, *, number=7945, extendable=False, exponent=0, length=16, passphrase=PASSPHRASE, standard=ENCRYPTION):
+    """Returns a case of an encrypted secret. Those of the same length are the same."""
+    given = {"identifier": number, "extendable": extendable, "exponent": exponent, "value": drawn(f"decrypted: {length}", length).hex()}
+    return Case(id, "decrypt", about, finds, standard, given | {"passphrase": passphrase})
+
+
+def decryptions():
+    """Encrypted secrets that were kept, and are decrypted with a passphrase."""
+    for number in (0, 32767):
+        for flag in (False, True):
+            how = "is in the salt, without the flag" if not flag else "isn't in the salt, with the flag"
+            about = f"The identifier {number} {how}."
+            yield decrypting(f"decrypted-{number}-{int(flag)}", about, "a salt that is another one", number=number, extendable=flag)
+    for exponent in (1, 3):
+        yield decrypting(f"decrypted-exponent-{exponent}", f"The exponent is {exponent}.", "a wrong number of iterations", exponent=exponent)
+    for length in (66, 128):
+        yield decrypting(f"decrypted-{length}-bytes", f"The encrypted secret has {length} bytes.", "a second block of PBKDF2", length=length)
+    yield decrypting("decrypted-no-passphrase", "The passphrase is empty.", "a passphrase that can't be empty", passphrase="")
+    about = "The passphrase isn't printable ASCII."
+    yield decrypting("decrypted-accent", about, "a passphrase that isn't checked", passphrase="Z\u00fcrich", standard=PASSPHRASES)
+
+
+def sealed():
+    """Yields the id of each backup whose mnemonics combine, a quorum of it, and its encrypted secret."""
+    for case in encrypted_secrets():
+        backup = plain.set_of("\n".join(case.given["mnemonics"]).encode())
+        first = plain.quorums(backup)[0]
+        if case.id != "encrypted-mismatch":
+            yield case.id, [[backup[name] for name in first]], plain.combined(backup, first)
+
+
+KINDS = {"encrypted secrets": encrypted_secrets, "decryptions": decryptions}
