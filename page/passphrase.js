@@ -8,6 +8,8 @@ import { ask } from "./screen.js";
 /** @typedef {import("./client.js").Desk} Desk */
 
 const FINGERPRINT = /^[0-9a-f]{8}$/;
+/** How many characters a new passphrase has at most: as many bytes as the program `shamir` reads from a file. */
+const LONGEST = 1024;
 
 /**
  * Makes fields for a passphrase, which is typed once or twice. What wallets don't take is told as soon as it is typed.
@@ -36,6 +38,7 @@ export function passphraseFields(desk, isTwice) {
     if (none.field.checked) return typed || again?.field.value ? say("passphrase.both") : null;
     if (typed === "") return say("passphrase.missing");
     if (fault.textContent !== "") return say("passphrase.unfit");
+    if (isTwice && typed.length > LONGEST) return say("passphrase.long");
     if (again && again.field.value !== typed) return say("passphrase.differ");
     if (typed === typed.trim() || isAsked) return null;
     isAsked = true;

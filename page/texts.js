@@ -169,6 +169,7 @@ export const TEXTS = {
   "passphrase.new": "A passphrase is an additional secret that isn't written on the papers. Whoever finds enough papers needs it too, but may try to guess it. You need it as well: without it, the papers are worth nothing.",
   "passphrase.missing": "Type the passphrase, or say that there is none.",
   "passphrase.unfit": "Mend the passphrase first: one of its characters can't be used.",
+  "passphrase.long": "A new passphrase has at most 1,024 bytes, as the program shamir reads no longer one from a file.",
   "passphrase.both": "A passphrase is typed, but the box says that there is none. Empty the field, or clear the box.",
   "passphrase.differ": "The two passphrases differ. Type both again.",
   "passphrase.space": "The passphrase begins or ends with a space. If that is right, go on once more.",

@@ -154,11 +154,12 @@ def check_values(page, see):
         ("pässword", "pässword", say("passphrase.unfit")),
         (PASSPHRASE, "TREZOr", say("passphrase.differ")),
         (f"{PASSPHRASE} ", f"{PASSPHRASE} ", say("passphrase.space")),
+        ("x" * 1025, "x" * 1025, say("passphrase.long")),
     ]:
         type_digits(page, SECRET, SECRET, FINGERPRINT)
         for field, value in [("passphrase.label", passphrase), ("passphrase.again", again)]:
             page.fill(say(field), value)
-            if field == "passphrase.label" and value.strip() != PASSPHRASE:
+            if field == "passphrase.label" and text == say("passphrase.unfit"):
                 page.wait_text(said(41, first=2))
                 see("a passphrase that wallets don't take")
         page.push(say("make.create"))

@@ -141,7 +141,15 @@ class Terminals(unittest.TestCase):
         status, shown = self.typed(["recover"], TEXT + b"\x04")
         self.assertEqual(status, 0)
         self.assertIn("type a mnemonic on each line", shown)
-        self.assertIn("no passphrase was used", shown)
+        self.assertRegex(shown, r"no passphrase was used: [^\n]*\n[0-9a-f]{32}\n$")
+
+    def test_what_helps_a_person(self):
+        status, shown = self.typed(["create", "2of3"], b"")
+        self.assertEqual(status, 2)
+        self.assertIn("shamir-papers new asks step by step", shown)
+        status, shown = self.typed(["reissue", "2 of 3", "0.1"], b"\x04")
+        self.assertEqual(status, 1)
+        self.assertIn("31 bad plan\nshamir: a plan is TofN", shown)
 
     def test_the_rest_is_dropped(self):
         status, shown = self.typed(["show"], b"academic\n" + TEXT + b"\x04")

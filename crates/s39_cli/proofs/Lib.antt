@@ -17,3 +17,4 @@ pub mod Untouched
 pub mod Works
 pub mod OneEnding
 pub mod FileLine
+pub mod Formless

@@ -3,6 +3,8 @@ use Rattle.std.proofs.Common.{◌≡◌, ◌⊎◌, ◌≤◌, ◌∙◌, ◌++�
 use Rattle.std.proofs.KnownBytes.{Appends-trans}
 use Rattle.clap.specs.Words.{Text, fault_of, takes}
 use Rattle.s39_kdf.specs.Limits.{IsPrintable}
+use Rattle.s39_backup.specs.declared.plan_error.PlanError.{PlanError}
+use Rattle.s39_backup.specs.declared.plan_error.PlanError.TheVariants.{BadPlan, PlanGroups, PlanMembers, OneOfMany}
 use Rattle.s39_words.specs.declared.ShareFields.{ShareFields}
 use Rattle.s39_input.specs.declared.fault.Refusal.{Refusal}
 use Rattle.s39_input.specs.declared.fault.Refusal.TheVariants.{Device}
@@ -31,11 +33,13 @@ use Rattle.s39_cli.specs.declared.work.Work.TheVariants as work
 use Rattle.s39_reading.specs.Recover.{WritesSecret}
 use Rattle.s39_drilling.specs.Drill.{WritesDrillOf}
 use Rattle.s39_cli.specs.Ending.{Delivers, HasStatus, IsTyped, OnEnd}
-use Rattle.s39_cli.specs.Outcome.{IsReady, judged, status_of, status_of_refusal, where_done, without_mismatches}
-use Rattle.s39_cli.specs.Said.{IsSaid, IsSaidAs, IsSaidBy, IsSaidOfCall, IsSaidOfJob, IsSaidUnbegun, IsSaidWithoutJob, IsSilentAtNone, IsWithin, OnStatus}
-use Rattle.s39_cli.specs.Said.{Says, SaysAnswer, SaysMessage, longest_message, memory_line}
-use Rattle.s39_cli.specs.Said.{IsNamedIn, bare_line, is_terminal, line_if, long_line, secret_line, shown_line, tells_of_none, typed_line, types_mnemonics, types_passphrase, typing_line}
+use Rattle.s39_cli.specs.Outcome.{HasBadPlan, IsReady, judged, status_of, status_of_refusal, where_done, without_mismatches}
+use Rattle.s39_cli.specs.Said.{HasFormlessPlan, IsSaid, IsSaidAs, IsSaidBy, IsSaidOfCall, IsSaidOfJob, IsSaidUnbegun, IsSaidWithoutJob, IsSilentAtNone}
+use Rattle.s39_cli.specs.Said.{IsWithin, OnStatus, Says, SaysFault, SaysMessage, SaysOfNone, longest_message, memory_line, plan_form_line}
+use Rattle.s39_cli.specs.Unready.{IsUnready}
+use Rattle.s39_cli.specs.Said.{IsNamedIn, bare_line, is_attended, is_terminal, line_if, long_line, secret_line, shown_line, tells_of_none, typed_line, types_mnemonics, types_passphrase, typing_line}
 use Rattle.s39_cli.specs.Work.{HasBadPassphrase, IsWorkOutput}
+use Rattle.s39_cli.proofs.Formless.{formed_by_cursor, formed_by_fingerprint, formed_by_names, formed_if_other, formed_if_ready, formless_if_bad}
 
 -- ---- exit statuses
 
@@ -110,29 +114,35 @@ module _ {E : Type 0} (contents : E → Option (List ℕ)) where
   -- ---- a job
 
   -- an answer with exit status 0 is no fault
-  says_well : (answer : Result Bool Fault) (tells : Bool) (old new : Messages E) → status_of answer ≡ 0 → SaysAnswer contents answer tells old new
-      → Says contents old new (line_if tells bare_line)
-  says_well (Ok is_well) tells old new none says = says
-  says_well (Err fault) tells old new none says = absurd (refusal_some fault.refusal none)
+  says_well : (answer : Result Bool Fault) (tells : Bool) (old mid new : Messages E) → status_of answer ≡ 0 → SaysOfNone contents tells answer old mid
+      → SaysFault contents answer mid new → Says contents old new (line_if tells bare_line)
+  says_well (Ok is_well) tells old mid new none says same = subst (λ (m : Messages E). Says contents old m (line_if tells bare_line)) (sym same) says
+  says_well (Err fault) tells old mid new none says fails = absurd (refusal_some fault.refusal none)
 
-  -- what is said of an answer is short
-  says_shortly : (answer : Result Bool Fault) (tells : Bool) (old new : Messages E) → SaysAnswer contents answer tells old new
-      → (text : Text) × (length text ≤ longest_message) × Says contents old new text
-  says_shortly (Ok is_well) tells old new says = (line_if tells bare_line, bare_short tells, says)
-  says_shortly (Err fault) tells old new says = says
+  -- what is said of an answer with exit status 1 is short
+  says_shortly : (answer : Result Bool Fault) (tells : Bool) (old mid new : Messages E) → status_of answer ≡ 1 → SaysOfNone contents tells answer old mid
+      → SaysFault contents answer mid new → SaysMessage contents old new
+  says_shortly (Ok is_well) tells old mid new one says same = (
+    line_if tells bare_line,
+    bare_short tells,
+    subst (λ (m : Messages E). Says contents old m (line_if tells bare_line)) (sym same) says,
+  )
+  says_shortly (Err fault) tells old mid new one says fails = subst (λ (m : Messages E). SaysMessage contents m new) (says one) fails
 
   -- a run that gave this answer
-  pub said_by_run : (j : Job) (secret : Text) (types tells asks : Bool) (w : Work) (answer : Result Bool Fault) (old mid new : Messages E)
+  pub said_by_run : (j : Job) (secret : Text) (attended types tells asks : Bool) (w : Work) (answer : Result Bool Fault) (old mid late new : Messages E)
       → IsReady j secret → (asks ≡ types) ⊎ ((asks ≡ false) × HasBadPassphrase w)
       → (status_of answer ≡ 0 → (input : Input) × (text : List ℕ) × HasStatus (IsWorkOutput w) input text (status_of answer))
-      → Says contents old mid (line_if asks typing_line) → SaysAnswer contents answer tells mid new
-      → IsSaidBy contents j types tells old new (status_of answer)
-  said_by_run j secret types tells asks w answer old mid new ready asked output first second = record {
+      → Says contents old mid (line_if asks typing_line) → SaysOfNone contents tells answer mid late → SaysFault contents answer late new
+      → IsSaidBy contents j attended types tells old new (status_of answer)
+  said_by_run j secret attended types tells asks w answer old mid late new ready asked output first second third = record {
     done = λ none. says_both old mid new (line_if types typing_line) (line_if tells bare_line)
-        (subst (λ (b : Bool). Says contents old mid (line_if b typing_line)) (asks_all asked none) first) (says_well answer tells mid new none second);
-    refused = λ one.
-        let short = says_shortly answer tells mid new second in
+        (subst (λ (b : Bool). Says contents old mid (line_if b typing_line)) (asks_all asked none) first)
+        (says_well answer tells mid late new none second third);
+    refused = λ one formed.
+        let short = says_shortly answer tells mid late new one second third in
         (asks, short.0, within asked, short.1, (λ comes. (secret, ready)), says_both old mid new (line_if asks typing_line) short.0 first short.2);
+    formless = λ one formless. absurd (formed_if_ready j secret ready formless);
     wrong = λ two. absurd (never_two answer two);
   }
     where
@@ -148,14 +158,15 @@ module _ {E : Type 0} (contents : E → Option (List ℕ)) where
 
   -- a run whose devices are known
   pub said_by_work : {R W : Type 0} (remaining : R → Option (List ℕ)) (held : W → Option (List ℕ)) (j : Job) (secret : Text)
-      (types tells asks : Bool) (w : Work)
-      (answer : Result Bool Fault) (reader read_to : R) (writer written_to : W) (ended : Ended R W) (old mid new : Messages E)
+      (attended types tells asks : Bool) (w : Work)
+      (answer : Result Bool Fault) (reader read_to : R) (writer written_to : W) (ended : Ended R W) (old mid late new : Messages E)
       → IsReady j secret → (asks ≡ types) ⊎ ((asks ≡ false) × HasBadPassphrase w)
       → Delivers remaining held (HasStatus (IsWorkOutput w)) reader writer (status_of answer) read_to written_to
-      → Says contents old mid (line_if asks typing_line) → SaysAnswer contents answer tells mid new
-      → ended ≡ With (status_of answer) read_to written_to → IsSaidOfJob contents j types tells old new ended
-  said_by_work remaining held j secret types tells asks w answer reader read_to writer written_to ended old mid new ready asked delivers first second same =
-      subst (IsSaidOfJob contents j types tells old new) (sym same) (said_by_run j secret types tells asks w answer old mid new ready asked output first second)
+      → Says contents old mid (line_if asks typing_line) → SaysOfNone contents tells answer mid late → SaysFault contents answer late new
+      → ended ≡ With (status_of answer) read_to written_to → IsSaidOfJob contents j attended types tells old new ended
+  said_by_work remaining held j secret attended types tells asks w answer reader read_to writer written_to ended old mid late new ready asked delivers
+      first second third same = subst (IsSaidOfJob contents j attended types tells old new) (sym same)
+      (said_by_run j secret attended types tells asks w answer old mid late new ready asked output first second third)
     where
       output : status_of answer ≡ 0 → (input : Input) × (text : List ℕ) × HasStatus (IsWorkOutput w) input text (status_of answer)
       output none =
@@ -163,12 +174,12 @@ module _ {E : Type 0} (contents : E → Option (List ℕ)) where
           (whole done.0, done.2.0, done.2.1)
 
   -- no memory is left after the first lines
-  pub said_for_memory : {R W : Type 0} (j : Job) (types tells asks : Bool) (w : Work) (ended : Ended R W) (old mid new : Messages E)
+  pub said_for_memory : {R W : Type 0} (j : Job) (attended types tells asks : Bool) (w : Work) (ended : Ended R W) (old mid new : Messages E)
       → (asks ≡ types) ⊎ ((asks ≡ false) × HasBadPassphrase w)
       → Says contents old mid (line_if asks typing_line) → Says contents mid new memory_line → ended ≡ NoMemory
-      → IsSaidOfJob contents j types tells old new ended
-  said_for_memory j types tells asks w ended old mid new asked first second same =
-      subst (IsSaidOfJob contents j types tells old new) (sym same)
+      → IsSaidOfJob contents j attended types tells old new ended
+  said_for_memory j attended types tells asks w ended old mid new asked first second same =
+      subst (IsSaidOfJob contents j attended types tells old new) (sym same)
       (asks, within asked, says_both old mid new (line_if asks typing_line) memory_line first second)
     where
       within : (asks ≡ types) ⊎ ((asks ≡ false) × HasBadPassphrase w) → IsWithin asks types
@@ -176,30 +187,57 @@ module _ {E : Type 0} (contents : E → Option (List ℕ)) where
       within (inr bad) comes = absurd (true≢false (sym comes ∙ bad.0))
 
   -- a job that isn't begun
-  refused_unbegun : {R W : Type 0} (j : Job) (types tells : Bool) (ended : Ended R W) (old new : Messages E)
-      → OnStatus ended (λ status. (status ≡ 1) × SaysMessage contents old new) → IsSaidOfJob contents j types tells old new ended
-  refused_unbegun j types tells NoMemory old new says = absurd says
-  refused_unbegun j types tells (With status read_to written_to) old new (is, (text, short, says)) = record {
+  refused_unbegun : {R W : Type 0} (j : Job) (attended types tells : Bool) (ended : Ended R W) (old new : Messages E) → (HasFormlessPlan j → ⊥)
+      → OnStatus ended (λ status. (status ≡ 1) × SaysMessage contents old new) → IsSaidOfJob contents j attended types tells old new ended
+  refused_unbegun j attended types tells NoMemory old new formed says = absurd says
+  refused_unbegun j attended types tells (With status read_to written_to) old new formed (is, (text, short, says)) = record {
     done = λ none. absurd (omega (arith, none, is));
-    refused = λ one.
+    refused = λ one _.
         (false, text, (λ comes. absurd (true≢false (sym comes))), short, (λ comes. absurd (true≢false (sym comes))), says);
+    formless = λ one formless. absurd (formed formless);
     wrong = λ two. absurd (omega (arith, two, is));
   }
 
-  pub said_unbegun : {R W : Type 0} (j : Job) (types tells : Bool) (u : Unready) (ended : Ended R W) (old new : Messages E)
-      → IsSaidUnbegun contents u old new ended → IsSaidOfJob contents j types tells old new ended
-  said_unbegun j types tells unready.Memory ended old new (none, says) =
-      subst (IsSaidOfJob contents j types tells old new) (sym none) (false, (λ comes. absurd (true≢false (sym comes))), says)
-  said_unbegun j types tells unready.Secret NoMemory old new says = absurd says
-  said_unbegun j types tells unready.Secret (With status read_to written_to) old new (is, says) = record {
+  -- a job whose text of a plan gives none
+  pub said_of_plan : {R W : Type 0} (j : Job) (secret : Text) (attended types tells : Bool) (error : PlanError) (ended : Ended R W) (old new : Messages E)
+      → HasBadPlan j secret error → IsSaidUnbegun contents attended (unready.Plan error) old new ended
+      → IsSaidOfJob contents j attended types tells old new ended
+  said_of_plan j secret attended types tells error NoMemory old new bad says = absurd says
+  said_of_plan j secret attended types tells BadPlan (With status read_to written_to) old new bad (is, formless, other) = record {
+    done = λ none. absurd (omega (arith, none, is));
+    refused = λ one formed. absurd (formed (formless_if_bad j secret bad));
+    formless = λ one _. formless refl;
+    wrong = λ two. absurd (omega (arith, two, is));
+  }
+  said_of_plan j secret attended types tells PlanGroups (With status read_to written_to) old new bad (is, formless, other) =
+      refused_unbegun j attended types tells (With status read_to written_to) old new
+      (formed_if_other j secret PlanGroups bad (λ same. cc same)) (is, other (λ same. cc same))
+  said_of_plan j secret attended types tells (PlanMembers group) (With status read_to written_to) old new bad (is, formless, other) =
+      refused_unbegun j attended types tells (With status read_to written_to) old new
+      (formed_if_other j secret (PlanMembers group) bad (λ same. cc same)) (is, other (λ same. cc same))
+  said_of_plan j secret attended types tells (OneOfMany group) (With status read_to written_to) old new bad (is, formless, other) =
+      refused_unbegun j attended types tells (With status read_to written_to) old new
+      (formed_if_other j secret (OneOfMany group) bad (λ same. cc same)) (is, other (λ same. cc same))
+
+  pub said_unbegun : {R W : Type 0} (j : Job) (secret : Text) (attended types tells : Bool) (u : Unready) (ended : Ended R W) (old new : Messages E)
+      → IsUnready j secret u → IsSaidUnbegun contents attended u old new ended → IsSaidOfJob contents j attended types tells old new ended
+  said_unbegun j secret attended types tells unready.Memory ended old new bad (none, says) =
+      subst (IsSaidOfJob contents j attended types tells old new) (sym none) (false, (λ comes. absurd (true≢false (sym comes))), says)
+  said_unbegun j secret attended types tells unready.Secret NoMemory old new bad says = absurd says
+  said_unbegun j secret attended types tells unready.Secret (With status read_to written_to) old new bad (is, says) = record {
     done = λ none. absurd (omega (arith, none, is));
     refused = λ one. absurd (omega (arith, one, is));
+    formless = λ one. absurd (omega (arith, one, is));
     wrong = λ _. says;
   }
-  said_unbegun j types tells (unready.Plan error) ended old new says = refused_unbegun j types tells ended old new says
-  said_unbegun j types tells (unready.Cursor bad) ended old new says = refused_unbegun j types tells ended old new says
-  said_unbegun j types tells (unready.Fingerprint bad) ended old new says = refused_unbegun j types tells ended old new says
-  said_unbegun j types tells (unready.Names bad) ended old new says = refused_unbegun j types tells ended old new says
+  said_unbegun j secret attended types tells (unready.Plan error) ended old new bad says =
+      said_of_plan j secret attended types tells error ended old new bad says
+  said_unbegun j secret attended types tells (unready.Cursor cursor) ended old new bad says =
+      refused_unbegun j attended types tells ended old new (formed_by_cursor j bad) says
+  said_unbegun j secret attended types tells (unready.Fingerprint fingerprint) ended old new bad says =
+      refused_unbegun j attended types tells ended old new (formed_by_fingerprint j bad) says
+  said_unbegun j secret attended types tells (unready.Names names) ended old new bad says =
+      refused_unbegun j attended types tells ended old new (formed_by_names j bad) says
 
   -- ---- the program
 
@@ -221,7 +259,7 @@ module _ {E : Type 0} (contents : E → Option (List ℕ)) where
     -- words that give no job
     pub said_without_job : (no_job : NoJob) (ended : Ended R W) → AnswersWords no_job words
         → (takes shamir_app words ≡ true → (no_job ≡ Memory) ⊎ ((bad : BadValues) × (no_job ≡ Values bad)))
-        → IsSaidWithoutJob contents no_job old new ended → IsSaid contents source destination words old new ended
+        → IsSaidWithoutJob contents (is_attended source destination) no_job old new ended → IsSaid contents source destination words old new ended
     said_without_job Memory ended answers wanting (none, says) = only_memory ended none says
     said_without_job (Help text) NoMemory answers wanting says = absurd says
     said_without_job (Refused text) NoMemory answers wanting says = absurd says
@@ -247,6 +285,7 @@ module _ {E : Type 0} (contents : E → Option (List ℕ)) where
             done = λ none. absurd (omega (arith, none));
             typed = λ _. says;
             refused = λ one. absurd (omega (arith, one));
+            formless = λ one. absurd (omega (arith, one));
             wrong = λ _. inl typed;
           }))
 
@@ -260,6 +299,7 @@ module _ {E : Type 0} (contents : E → Option (List ℕ)) where
             done = λ none. absurd (omega (arith, none, other));
             typed = λ typed. absurd (untyped typed);
             refused = λ one. absurd (omega (arith, one, other));
+            formless = λ one. absurd (omega (arith, one, other));
             wrong = λ two. inr (
               long_line name,
               inr (name, named, refl),
@@ -268,19 +308,19 @@ module _ {E : Type 0} (contents : E → Option (List ℕ)) where
             );
           })
 
-      pub said_of_job : (shown types tells : Bool) (mid : Messages E) (ended : Ended R W) → (IsTyped source call.job → ⊥)
-          → shown ≡ types_passphrase source call.files.passphrase → types ≡ types_mnemonics source call.job
+      pub said_of_job : (attended shown types tells : Bool) (mid : Messages E) (ended : Ended R W) → (IsTyped source call.job → ⊥)
+          → attended ≡ is_attended source destination → shown ≡ types_passphrase source call.files.passphrase → types ≡ types_mnemonics source call.job
           → tells ≡ tells_of_none source destination call
-          → Says contents old mid (line_if shown shown_line) → IsSaidOfJob contents call.job types tells mid new ended
+          → Says contents old mid (line_if shown shown_line) → IsSaidOfJob contents call.job attended types tells mid new ended
           → IsSaid contents source destination words old new ended
-      said_of_job shown types tells mid NoMemory untyped shown_is types_is tells_is first (begun, within, says) = (
+      said_of_job attended shown types tells mid NoMemory untyped attended_is shown_is types_is tells_is first (begun, within, says) = (
         shown,
         begun,
         (λ comes. typed_passphrase source call.files.passphrase (sym shown_is ∙ comes)),
         (λ comes. typed_mnemonics source call.job (sym types_is ∙ within comes)),
         says_both old mid new (line_if shown shown_line) (line_if begun typing_line ++ memory_line) first says,
       )
-      said_of_job shown types tells mid (With status read_to written_to) untyped shown_is types_is tells_is first says =
+      said_of_job attended shown types tells mid (With status read_to written_to) untyped attended_is shown_is types_is tells_is first says =
           by_call source destination words old new call found faultless status (record {
             done = λ none. subst (λ (b : Bool). Says contents old new (line_if b shown_line
                 ++ (line_if (types_mnemonics source call.job) typing_line ++ line_if (tells_of_none source destination call) bare_line))) shown_is
@@ -289,8 +329,8 @@ module _ {E : Type 0} (contents : E → Option (List ℕ)) where
                 (subst (λ (b : Bool). Says contents old new (line_if shown shown_line ++ (line_if types typing_line ++ line_if b bare_line))) tells_is
                 (says_both old mid new (line_if shown shown_line) (line_if types typing_line ++ line_if tells bare_line) first (says.done none))));
             typed = λ typed. absurd (untyped typed);
-            refused = λ one.
-                let r = says.refused one in (
+            refused = λ one formed.
+                let r = says.refused one formed in (
                   r.0,
                   r.1,
                   (λ comes. sym types_is ∙ r.2 comes),
@@ -298,6 +338,14 @@ module _ {E : Type 0} (contents : E → Option (List ℕ)) where
                   r.4,
                   subst (λ (b : Bool). Says contents old new (line_if b shown_line ++ (line_if r.0 typing_line ++ r.1))) shown_is
                       (says_both old mid new (line_if shown shown_line) (line_if r.0 typing_line ++ r.1) first r.5),
+                );
+            formless = λ one formless.
+                let r = says.formless one formless in (
+                  r.0,
+                  r.1,
+                  subst (λ (b : Bool). Says contents old new (line_if b shown_line ++ (r.0 ++ line_if (is_attended source destination) plan_form_line)))
+                      shown_is (subst (λ (b : Bool). Says contents old new (line_if shown shown_line ++ (r.0 ++ line_if b plan_form_line))) attended_is
+                      (says_both old mid new (line_if shown shown_line) (r.0 ++ line_if attended plan_form_line) first r.2)),
                 );
             wrong = λ two. inr (
               secret_line,

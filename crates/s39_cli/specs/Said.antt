@@ -1,5 +1,5 @@
 -- What the program says on standard error.
-use Rattle.std.specs.Prelude.{◌≡◌, ◌⊎◌, ◌≤◌, ◌++◌, ℕ, Bool, IsFalse, true, false, List, [], Option, Some, Result, Ok, Err, is_some, is_none, bytes_eq, codes}
+use Rattle.std.specs.Prelude.{◌≡◌, ◌≢◌, ◌⊎◌, ◌≤◌, ◌++◌, ℕ, Bool, IsFalse, true, false, List, [], Option, Some, Result, Ok, Err, is_some, is_none, bytes_eq, codes}
 use Rattle.std.specs.Prelude.{if◌then◌else◌, length, string_bytes}
 use Rattle.std.specs.Borrow.{Bor}
 use Rattle.std.specs.Fmt.Cut.{cut_to}
@@ -7,13 +7,16 @@ use Rattle.std.specs.Io.KnownBytes.{Appends}
 use Rattle.clap.specs.Words.{Text, takes}
 use Rattle.s39_command.specs.declared.command.Call.{Call}
 use Rattle.s39_command.specs.declared.command.Job.{Job}
-use Rattle.s39_command.specs.declared.command.Job.TheVariants.{Create, Recover, Drill}
+use Rattle.s39_command.specs.declared.command.Job.TheVariants.{Create, Recover, Drill, Reissue, Resplit}
 use Rattle.s39_command.specs.declared.command.BadValues.{BadValues}
+use Rattle.s39_command.specs.declared.command.BadValues.TheVariants.{NoSecret}
 use Rattle.s39_command.specs.declared.command.NoJob.{NoJob}
 use Rattle.s39_command.specs.declared.command.NoJob.TheVariants.{Help, Refused, Values}
 use Rattle.s39_command.specs.declared.command.NoJob.TheVariants as no_job
 use Rattle.s39_command.specs.declared.command.Texts.{Texts}
 use Rattle.s39_command.specs.Command.{AsksForText, GivesBadValues, GivesCall, bad_text, shamir_app, text_in}
+use Rattle.s39_backup.specs.Plan.{PlanForm}
+use Rattle.s39_backup.specs.declared.plan_error.PlanError.TheVariants.{BadPlan}
 use Rattle.s39_input.specs.declared.fault.Fault.{Fault}
 use Rattle.s39_cli.specs.declared.messages.Messages.{Messages}
 use Rattle.s39_cli.specs.declared.runner.Destination.{Destination}
@@ -23,9 +26,9 @@ use Rattle.s39_cli.specs.declared.runner.Ended.TheVariants.{With, NoMemory}
 use Rattle.s39_cli.specs.declared.runner.Source.{Source}
 use Rattle.s39_cli.specs.declared.runner.Source.TheVariants as read_at
 use Rattle.s39_cli.specs.declared.work.Unready.{Unready}
-use Rattle.s39_cli.specs.declared.work.Unready.TheVariants.{Secret, Memory}
+use Rattle.s39_cli.specs.declared.work.Unready.TheVariants.{Secret, Plan, Memory}
 use Rattle.s39_cli.specs.Ending.{IsTyped, OnEnd}
-use Rattle.s39_cli.specs.Outcome.{IsReady}
+use Rattle.s39_cli.specs.Outcome.{IsReady, status_of_refusal}
 use Rattle.s39_cli.specs.Values.{input_name}
 
 module _ {E : Type 0} (contents : E → Option (List ℕ)) where
@@ -47,9 +50,17 @@ shown_line = codes "shamir: the passphrase is shown as it is typed\n"
 abbrev pub typing_line : Text
 typing_line = codes "shamir: type a mnemonic on each line, then press Ctrl-D on an empty line\n"
 
--- said after secrets that another passphrase would change
+-- said of secrets that another passphrase would change
 abbrev pub bare_line : Text
 bare_line = codes "shamir: no passphrase was used: a backup with one gives another secret here\n"
+
+-- said after a text that has another form than a plan is refused
+abbrev pub plan_form_line : Text
+plan_form_line = codes "shamir: a plan is TofN for one group, or GT/T1ofN1,T2ofN2,.. for several, as 2of3 or 2/2of3,1of1,1of1\n"
+
+-- said after a creation without a secret is refused
+abbrev pub new_secret_line : Text
+new_secret_line = codes "shamir: shamir-papers new asks step by step; to draw a new secret by hand: od -An -v -tx1 -N16 /dev/urandom | tr -dc 0-9a-f | install -m 600 /dev/stdin /dev/shm/secret\n"
 
 -- said for random bytes that would be typed
 abbrev pub typed_line : Text
@@ -120,6 +131,15 @@ is_bare call = if is_some call.given.passphrase then false else if is_some call.
 abbrev pub tells_of_none : Source → Destination → Call → Bool
 tells_of_none source destination call = if is_attended source destination then is_bare call else false
 
+-- a person is told how to draw a secret: one looks on, and no secret is given
+abbrev pub tells_of_drawing : Bool → BadValues → Bool
+tells_of_drawing attended NoSecret = attended
+tells_of_drawing attended _ = false
+
+-- all that is said of values that are missing or given twice
+abbrev pub said_of_values : Bool → BadValues → Text
+said_of_values attended bad = bad_text bad ++ line_if (tells_of_drawing attended bad) new_secret_line
+
 -- all that is said if the exit status is 0
 abbrev pub said_of : Source → Destination → Call → Text
 said_of source destination call = line_if (types_passphrase source call.files.passphrase) shown_line
@@ -134,6 +154,13 @@ longest_message = 104
 -- this comes to pass only if that may
 abbrev pub IsWithin : Bool → Bool → Type 0
 IsWithin comes may = comes ≡ true → may ≡ true
+
+-- the text of the job's plan has another form than a plan
+abbrev pub HasFormlessPlan : Job → Type 0
+HasFormlessPlan (Create plan exponent extendable) = ¬ PlanForm plan.now
+HasFormlessPlan (Reissue plan names) = ¬ PlanForm plan.now
+HasFormlessPlan (Resplit plan file) = ¬ PlanForm plan.now
+HasFormlessPlan _ = ⊥
 
 -- with exit status 0 nothing is said, if no person is told of anything
 abbrev pub IsSilentAtNone : {R W M : Type 0} → Bool → Ended R W → M → M → Type 0
@@ -155,22 +182,26 @@ IsValueLine files text = (text ≡ secret_line) ⊎ ((name : Text) × IsNamedIn 
 module _ {E : Type 0} (contents : E → Option (List ℕ)) where
   -- With exit status 0, exactly the lines of `said_of` are said. For random bytes that would be typed it is that line. With 1 it is the
   -- line about a passphrase that is typed, the line about mnemonics if the command began to read them, for which its texts had to be right,
-  -- and at most one more message. With 2 it is the line about such a passphrase, and what is wrong with a value.
+  -- and at most one more message. If the text of the plan has another form than a plan, it is that message, and to a person which form a
+  -- plan has. With 2 it is the line about such a passphrase, and what is wrong with a value.
   pub record IsSaidOfCall (source : Source) (destination : Destination) (call : Call) (old new : Messages E) (status : ℕ) : Type 0 where
     pub done : status ≡ 0 → Says contents old new (said_of source destination call)
     pub typed : IsTyped source call.job → Says contents old new typed_line
-    pub refused : status ≡ 1 → (begun : Bool) × (text : Text) × IsWithin begun (types_mnemonics source call.job) × (length text ≤ longest_message)
+    pub refused : status ≡ 1 → (HasFormlessPlan call.job → ⊥)
+        → (begun : Bool) × (text : Text) × IsWithin begun (types_mnemonics source call.job) × (length text ≤ longest_message)
         × (begun ≡ true → (secret : Text) × IsReady call.job secret)
         × Says contents old new (line_if (types_passphrase source call.files.passphrase) shown_line ++ (line_if begun typing_line ++ text))
+    pub formless : status ≡ 1 → HasFormlessPlan call.job → (text : Text) × (length text ≤ longest_message)
+        × Says contents old new (line_if (types_passphrase source call.files.passphrase) shown_line
+        ++ (text ++ line_if (is_attended source destination) plan_form_line))
     pub wrong : status ≡ 2 → IsTyped source call.job ⊎ ((text : Text) × IsValueLine call.files text
         × Says contents old new (line_if (types_passphrase source call.files.passphrase) shown_line ++ text))
 
-  -- Nothing is said beside help or the version. Values that are missing or given twice have their text. What is said of a call is as
-  -- above.
+  -- Nothing is said beside help or the version. What is said of values that are missing or given twice, and of a call, is as above.
   pub record IsSaidAs (source : Source) (destination : Destination) (words : List Text) (old new : Messages E) (status : ℕ) : Type 0 where
     pub asked : AsksForText words → status ≡ 0 → Says contents old new []
     pub taken : takes shamir_app words ≡ true
-        → ((bad : BadValues) × GivesBadValues words bad × Says contents old new (bad_text bad))
+        → ((bad : BadValues) × GivesBadValues words bad × Says contents old new (said_of_values (is_attended source destination) bad))
         ⊎ ((call : Call) × GivesCall words call × IsSaidOfCall source destination call old new status)
 
   -- If memory runs out, that is said, after the lines that were said before.
@@ -191,33 +222,47 @@ module _ {E : Type 0} (contents : E → Option (List ℕ)) where
   abbrev pub SaysMessage : Messages E → Messages E → Type 0
   SaysMessage old new = (text : Text) × (length text ≤ longest_message) × Says contents old new text
 
-  -- a fault is said; without one it is said that no passphrase was used, if a person is told so
-  abbrev pub SaysAnswer : Result Bool Fault → Bool → Messages E → Messages E → Type 0
-  SaysAnswer (Ok is_well) tells_of_none old new = Says contents old new (line_if tells_of_none bare_line)
-  SaysAnswer (Err fault) tells_of_none old new = SaysMessage old new
+  -- the message of a refusal is said, and to a person which form a plan has
+  abbrev pub SaysFormless : Bool → Messages E → Messages E → Type 0
+  SaysFormless attended old new =
+      (text : Text) × (length text ≤ longest_message) × Says contents old new (text ++ line_if attended plan_form_line)
 
-  -- why a job isn't begun is said, with its exit status
-  abbrev pub IsSaidUnbegun : {R W : Type 0} → Unready → Messages E → Messages E → Ended R W → Type 0
-  IsSaidUnbegun Secret old new ended = OnStatus ended (λ status. (status ≡ 2) × Says contents old new secret_line)
-  IsSaidUnbegun Memory old new ended = (ended ≡ NoMemory) × Says contents old new memory_line
-  IsSaidUnbegun _ old new ended = OnStatus ended (λ status. (status ≡ 1) × SaysMessage old new)
+  -- of an answer without a fault it is said that no passphrase was used, if a person is told so; of one with a refusal it isn't
+  abbrev pub SaysOfNone : Bool → Result Bool Fault → Messages E → Messages E → Type 0
+  SaysOfNone tells_of_none (Ok is_well) old new = Says contents old new (line_if tells_of_none bare_line)
+  SaysOfNone tells_of_none (Err fault) old new = status_of_refusal fault.refusal ≡ 1 → new ≡ old
 
-  -- what is said for a job, by whether mnemonics are typed for it, and whether a person is told that no passphrase was used
-  pub record IsSaidBy (job : Job) (types_mnemonics tells_of_none : Bool) (old new : Messages E) (status : ℕ) : Type 0 where
+  -- a fault is said
+  abbrev pub SaysFault : Result Bool Fault → Messages E → Messages E → Type 0
+  SaysFault (Ok is_well) old new = new ≡ old
+  SaysFault (Err fault) old new = SaysMessage old new
+
+  -- why a job isn't begun is said, with its exit status, by whether a person looks on
+  abbrev pub IsSaidUnbegun : {R W : Type 0} → Bool → Unready → Messages E → Messages E → Ended R W → Type 0
+  IsSaidUnbegun attended Secret old new ended = OnStatus ended (λ status. (status ≡ 2) × Says contents old new secret_line)
+  IsSaidUnbegun attended (Plan error) old new ended = OnStatus ended (λ status. (status ≡ 1)
+      × (error ≡ BadPlan → SaysFormless attended old new) × (error ≢ BadPlan → SaysMessage old new))
+  IsSaidUnbegun attended Memory old new ended = (ended ≡ NoMemory) × Says contents old new memory_line
+  IsSaidUnbegun attended _ old new ended = OnStatus ended (λ status. (status ≡ 1) × SaysMessage old new)
+
+  -- what is said for a job, by whether a person looks on, whether mnemonics are typed for it, and whether a person is told that no passphrase was used
+  pub record IsSaidBy (job : Job) (attended types_mnemonics tells_of_none : Bool) (old new : Messages E) (status : ℕ) : Type 0 where
     pub done : status ≡ 0 → Says contents old new (line_if types_mnemonics typing_line ++ line_if tells_of_none bare_line)
-    pub refused : status ≡ 1 → (begun : Bool) × (text : Text) × IsWithin begun types_mnemonics × (length text ≤ longest_message)
+    pub refused : status ≡ 1 → (HasFormlessPlan job → ⊥)
+        → (begun : Bool) × (text : Text) × IsWithin begun types_mnemonics × (length text ≤ longest_message)
         × (begun ≡ true → (secret : Text) × IsReady job secret) × Says contents old new (line_if begun typing_line ++ text)
+    pub formless : status ≡ 1 → HasFormlessPlan job → SaysFormless attended old new
     pub wrong : status ≡ 2 → Says contents old new secret_line
 
   -- the same for how it ends
-  abbrev pub IsSaidOfJob : {R W : Type 0} → Job → Bool → Bool → Messages E → Messages E → Ended R W → Type 0
-  IsSaidOfJob job types_mnemonics tells_of_none old new (With status read_to written_to) = IsSaidBy job types_mnemonics tells_of_none old new status
-  IsSaidOfJob job types_mnemonics tells_of_none old new NoMemory =
+  abbrev pub IsSaidOfJob : {R W : Type 0} → Job → Bool → Bool → Bool → Messages E → Messages E → Ended R W → Type 0
+  IsSaidOfJob job attended types_mnemonics tells_of_none old new (With status read_to written_to) = IsSaidBy job attended types_mnemonics tells_of_none old new status
+  IsSaidOfJob job attended types_mnemonics tells_of_none old new NoMemory =
       (begun : Bool) × IsWithin begun types_mnemonics × Says contents old new (line_if begun typing_line ++ memory_line)
 
-  -- what is said for words that give no job
-  abbrev pub IsSaidWithoutJob : {R W : Type 0} → NoJob → Messages E → Messages E → Ended R W → Type 0
-  IsSaidWithoutJob (Help text) old new ended = OnStatus ended (λ status. status ≡ 0 → Says contents old new [])
-  IsSaidWithoutJob (Refused text) old new ended = OnStatus ended (λ status. (status ≡ 2) × Says contents old new (string_bytes text))
-  IsSaidWithoutJob (Values bad) old new ended = OnStatus ended (λ status. (status ≡ 2) × Says contents old new (bad_text bad))
-  IsSaidWithoutJob no_job.Memory old new ended = (ended ≡ NoMemory) × Says contents old new memory_line
+  -- what is said for words that give no job, by whether a person looks on
+  abbrev pub IsSaidWithoutJob : {R W : Type 0} → Bool → NoJob → Messages E → Messages E → Ended R W → Type 0
+  IsSaidWithoutJob attended (Help text) old new ended = OnStatus ended (λ status. status ≡ 0 → Says contents old new [])
+  IsSaidWithoutJob attended (Refused text) old new ended = OnStatus ended (λ status. (status ≡ 2) × Says contents old new (string_bytes text))
+  IsSaidWithoutJob attended (Values bad) old new ended = OnStatus ended (λ status. (status ≡ 2) × Says contents old new (said_of_values attended bad))
+  IsSaidWithoutJob attended no_job.Memory old new ended = (ended ≡ NoMemory) × Says contents old new memory_line

@@ -1,14 +1,17 @@
 //! How the output of a command goes to its writer.
-ghost use Rattle.std.specs.Prelude.{◌≡◌, IsTrue, IfSome, [], Err};
+ghost use Rattle.std.specs.Prelude.{◌≡◌, IsFalse, IsTrue, IfNone, IfSome, [], Err};
 ghost use Rattle.std.specs.Io.Buffered.{writer_buffer, writer_contents, writer_inner};
 ghost use Rattle.std.specs.Io.KnownBytes.{Keeps};
 ghost use Rattle.s39_input.specs.Fault.{fault_of};
 ghost use Rattle.s39_cli.specs.Ending.{Delivers, GoesOut, HandsOn, HasStatus};
 ghost use Rattle.s39_cli.specs.Outcome.{status_of};
+ghost use Rattle.s39_cli.specs.Said.{SaysOfNone};
 ghost use Rattle.s39_cli.specs.Untouched.{IsAtItsEnd};
 ghost use Rattle.s39_cli.specs.Work.{IsWorkOutput};
 
+use crate::messages::Messages;
 use crate::patient::Patient;
+use crate::telling::tell_of_none;
 use crate::work::Work;
 use s39_clearing::Cleared;
 use s39_tool::{Counting, DeviceFailure, Fault, Refusal};
@@ -23,12 +26,15 @@ pub(crate) struct Finished<R, W> {
     pub(crate) output: W,
 }
 
-/// Runs a command whose output goes out as its buffer fills, and gives `None` if there is no memory for the buffer.
-pub(crate) fn by_buffer<R: Read + Drop, W: Write + Drop>(
+/// Runs a command whose output goes out as its buffer fills, and gives `None` if there is no memory for the buffer. A person is told
+/// that no passphrase was used before the rest of the buffer goes out, in which the secret of a recovery is.
+pub(crate) fn by_buffer<R: Read + Drop, W: Write + Drop, E: Write>(
     alloc: Global,
     work: &Work,
     input: R,
     output: W,
+    tells_of_none: bool,
+    errors: &mut Messages<E>,
 ) -> Option<Finished<R, W>>
     ensures delivers { IfSome result (λ finished.
         Delivers R.remaining W.contents (HasStatus (IsWorkOutput work.now))
@@ -36,6 +42,10 @@ pub(crate) fn by_buffer<R: Read + Drop, W: Write + Drop>(
     // Of any devices.
     ensures untouched { IfSome result (λ finished.
         IsAtItsEnd work.now → status_of finished.answer ≡ 1 → finished.output ≡ output) }
+    ensures said { IfSome result (λ finished.
+        SaysOfNone E.contents tells_of_none finished.answer errors.old errors.new) }
+    ensures silent { IsFalse tells_of_none → errors.new ≡ errors.old }
+    ensures unsaid { IfNone result (errors.new ≡ errors.old) }
 {
     let Ok(buffered) = BufWriter::new(alloc, output) else {
         return None;
@@ -43,6 +53,7 @@ pub(crate) fn by_buffer<R: Read + Drop, W: Write + Drop>(
     let mut reader = Counting::new(input);
     let mut writer = Counting::new(buffered);
     let answer = work.run(&mut reader, &mut writer);
+    tell_of_none(&answer, tells_of_none, errors);
     let (answer, output) = handed_on(answer, writer.into_inner());
     Some(Finished {
         answer,

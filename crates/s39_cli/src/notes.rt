@@ -1,10 +1,10 @@
 //! What a person at a terminal is told beside the answer of a command.
 ghost use Rattle.std.specs.Prelude.{◌≡◌, IsFalse};
-ghost use Rattle.s39_cli.specs.Said.{is_attended, is_bare, recovers_any, tells_of_none, types_mnemonics, types_passphrase};
+ghost use Rattle.s39_cli.specs.Said.{is_attended, is_bare, recovers_any, tells_of_drawing, tells_of_none, types_mnemonics, types_passphrase};
 
 use crate::runner::{Destination, Source};
 use crate::values::INPUT;
-use s39_command::{Call, Job};
+use s39_command::{BadValues, Call, Job};
 
 /// Said before a passphrase is typed.
 pub(crate) const SHOWN: &[u8] = b"shamir: the passphrase is shown as it is typed\n";
@@ -13,16 +13,25 @@ pub(crate) const SHOWN: &[u8] = b"shamir: the passphrase is shown as it is typed
 pub(crate) const TYPING: &[u8] =
     b"shamir: type a mnemonic on each line, then press Ctrl-D on an empty line\n";
 
-/// Said after secrets that another passphrase would change.
+/// Said of secrets that another passphrase would change.
 pub(crate) const BARE: &[u8] =
     b"shamir: no passphrase was used: a backup with one gives another secret here\n";
 
-/// Which of these lines are said, if the command comes so far.
+/// Said after a text that has another form than a plan is refused.
+pub(crate) const PLAN_FORM: &[u8] =
+    b"shamir: a plan is TofN for one group, or GT/T1ofN1,T2ofN2,.. for several, as 2of3 or 2/2of3,1of1,1of1\n";
+
+/// Said after a creation without a secret is refused.
+pub(crate) const NEW_SECRET: &[u8] =
+    b"shamir: shamir-papers new asks step by step; to draw a new secret by hand: od -An -v -tx1 -N16 /dev/urandom | tr -dc 0-9a-f | install -m 600 /dev/stdin /dev/shm/secret\n";
+
+/// Which of these lines are said, if the command comes so far, and whether a person looks on.
 #[derive(Clone, Copy)]
 pub(crate) struct Notes {
     pub(crate) types_passphrase: bool,
     pub(crate) types_mnemonics: bool,
     pub(crate) tells_of_none: bool,
+    pub(crate) is_attended: bool,
 }
 
 impl Notes {
@@ -31,13 +40,16 @@ impl Notes {
         ensures passphrase { result.types_passphrase ≡ types_passphrase source call.now.files.passphrase }
         ensures mnemonics { result.types_mnemonics ≡ types_mnemonics source call.now.job }
         ensures none { result.tells_of_none ≡ tells_of_none source destination call.now }
+        ensures attended { result.is_attended ≡ is_attended source destination }
         ensures unattended { IsFalse (is_attended source destination) → IsFalse result.types_passphrase
             × IsFalse result.types_mnemonics × IsFalse result.tells_of_none }
     {
+        let is_attended = is_attended(source, destination);
         Notes {
             types_passphrase: types_passphrase(source, call.files.passphrase),
             types_mnemonics: types_mnemonics(source, &call.job),
-            tells_of_none: is_attended(source, destination) && is_bare(call),
+            tells_of_none: is_attended && is_bare(call),
+            is_attended,
         }
     }
 }
@@ -63,12 +75,22 @@ fn types_mnemonics(source: Source, job: &Job) -> bool
 }
 
 /// Whether a person types the input, or sees the output.
-fn is_attended(source: Source, destination: Destination) -> bool
+pub(crate) fn is_attended(source: Source, destination: Destination) -> bool
     ensures { result ≡ is_attended source destination }
 {
     match (source, destination) {
         (Source::Elsewhere, Destination::Elsewhere) => false,
         _ => true,
+    }
+}
+
+/// Whether a person is told how to draw a secret: one looks on, and no secret is given.
+pub(crate) fn tells_of_drawing(is_attended: bool, bad: BadValues) -> bool
+    ensures { result ≡ tells_of_drawing is_attended bad }
+{
+    match bad {
+        BadValues::NoSecret => is_attended,
+        _ => false,
     }
 }
 

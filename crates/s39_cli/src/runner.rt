@@ -4,18 +4,20 @@ ghost use Rattle.clap.specs.Words.{Text};
 ghost use Rattle.s39_command.specs.Command.{IsInRange};
 ghost use Rattle.s39_cli.specs.Ending.{DoesDrawn, DoesJob, Ends, EndsUnread, EndsWithoutJob, IsDoneWith, IsTyped, OnEnd, status_in};
 ghost use Rattle.s39_cli.specs.Values.{Told};
-ghost use Rattle.s39_cli.specs.Said.{IsSaid, IsSaidOfJob, IsSaidWithoutJob, IsSilentAtNone, OnStatus, Says, is_attended, long_line, typed_line};
+ghost use Rattle.s39_cli.specs.Said.{IsSaid, IsSaidOfJob, IsSaidWithoutJob, IsSilentAtNone, OnStatus, Says, is_attended, long_line, said_of_values, typed_line};
 ghost use Rattle.s39_cli.specs.Untouched.{IsUntouchedBy, IsUntouchedIfRefused};
 ghost use Rattle.s39_cli.specs.Work.{HasBadPassphrase};
 
 use crate::delivery::{by_buffer, by_lines, show, write_failed};
 use crate::messages::Messages;
-use crate::notes::{Notes, SHOWN, TYPING};
+use crate::notes::{NEW_SECRET, Notes, SHOWN, TYPING, is_attended, tells_of_drawing};
 use crate::random_file::{NoRandom, random_of};
-use crate::telling::{REASON_BYTES, answered, no_memory_left, report, say_of_file, unbegun};
+use crate::telling::{
+    REASON_BYTES, answered, no_memory_left, report, say_of_file, tell_of_none, unbegun,
+};
 use crate::values::{NoValue, Secrets, Shelf, Unread, Values};
 use crate::work::{Unready, Work};
-use s39_command::{Job, NoJob, read_words};
+use s39_command::{BadValues, Job, NoJob, read_words};
 use s39_tool::Plan;
 use std::alloc::Global;
 use std::fmt::InlineText;
@@ -107,7 +109,10 @@ pub fn program<S: Shelf, R: Read + Drop, W: Write + Drop, E: Write>(
 {
     let call = match read_words(alloc, words) {
         Ok(call) => call,
-        Err(no_job) => return without_job(no_job, input, output, errors),
+        Err(no_job) => {
+            let watched = is_attended(source, destination);
+            return without_job(no_job, watched, input, output, errors);
+        }
     };
     if is_typed(source, &call.job) {
         return typed(input, output, errors);
@@ -148,8 +153,8 @@ fn by_job<S: Shelf, R: Read + Drop, W: Write + Drop, E: Write>(
     ensures ends { OnEnd result (DoesDrawn (S.told shelf.now) R.remaining W.contents job.entry
         texts.entry.secret.now texts.entry.passphrase.now input output) }
     ensures untouched { IsUntouchedBy job.entry result output }
-    ensures said { IsSaidOfJob E.contents job.entry notes.types_mnemonics notes.tells_of_none
-        errors.old errors.new result }
+    ensures said { IsSaidOfJob E.contents job.entry notes.is_attended notes.types_mnemonics
+        notes.tells_of_none errors.old errors.new result }
     ensures silent { IsFalse notes.types_mnemonics
         → IsSilentAtNone notes.tells_of_none result errors.old errors.new }
 {
@@ -158,7 +163,10 @@ fn by_job<S: Shelf, R: Read + Drop, W: Write + Drop, E: Write>(
     };
     let _judged = match Plan::parse(plan) {
         Ok(judged) => judged,
-        Err(error) => return unbegun(Unready::Plan(error), input, output, errors),
+        Err(error) => {
+            let unready = Unready::Plan(error);
+            return unbegun(unready, notes.is_attended, input, output, errors);
+        }
     };
     let random = match random_of(alloc, shelf, name) {
         Ok(random) => random,
@@ -201,21 +209,23 @@ fn by_texts<R: Read + Drop, W: Write + Drop, E: Write>(
     ensures ends { OnEnd result (DoesJob R.remaining W.contents job.entry texts.entry.secret.now
         texts.entry.passphrase.now input output) }
     ensures untouched { IsUntouchedBy job.entry result output }
-    ensures said { IsSaidOfJob E.contents job.entry notes.types_mnemonics notes.tells_of_none
-        errors.old errors.new result }
+    ensures said { IsSaidOfJob E.contents job.entry notes.is_attended notes.types_mnemonics
+        notes.tells_of_none errors.old errors.new result }
     ensures silent { IsFalse notes.types_mnemonics
         → IsSilentAtNone notes.tells_of_none result errors.old errors.new }
 {
     let work = match Work::of(alloc, job, texts) {
         Ok(work) => work,
-        Err(unready) => return unbegun(unready, input, output, errors),
+        Err(unready) => return unbegun(unready, notes.is_attended, input, output, errors),
     };
     errors.say_if(asks(notes, &work), TYPING);
     if work.goes_by_lines(destination) {
-        return answered(by_lines(&work, input, output), notes, errors);
+        let finished = by_lines(&work, input, output);
+        tell_of_none(&finished.answer, notes.tells_of_none, errors);
+        return answered(finished, errors);
     }
-    match by_buffer(alloc, &work, input, output) {
-        Some(finished) => answered(finished, notes, errors),
+    match by_buffer(alloc, &work, input, output, notes.tells_of_none, errors) {
+        Some(finished) => answered(finished, errors),
         None => no_memory_left(errors),
     }
 }
@@ -230,12 +240,13 @@ fn asks(notes: Notes, work: &Work) -> bool
 /// Answers words that give no job.
 fn without_job<R: Drop, W: Write + Drop, E: Write>(
     no_job: NoJob,
+    is_attended: bool,
     input: R,
     output: W,
     errors: &mut Messages<E>,
 ) -> Ended<R, W>
     ensures ends { EndsWithoutJob W.contents no_job input output result }
-    ensures said { IsSaidWithoutJob E.contents no_job errors.old errors.new result }
+    ensures said { IsSaidWithoutJob E.contents is_attended no_job errors.old errors.new result }
     ensures silent { IsSilentAtNone false result errors.old errors.new }
 {
     match no_job {
@@ -261,7 +272,7 @@ fn without_job<R: Drop, W: Write + Drop, E: Write>(
             }
         }
         NoJob::Values(bad) => {
-            errors.say(bad.text().as_bytes());
+            refuse_values(bad, is_attended, errors);
             Ended::With {
                 status: NO_JOB,
                 input,
@@ -270,6 +281,14 @@ fn without_job<R: Drop, W: Write + Drop, E: Write>(
         }
         NoJob::Memory => no_memory_left(errors),
     }
+}
+
+/// Says what is wrong with the values of words, and how to draw a secret if a person is told.
+fn refuse_values<E: Write>(bad: BadValues, is_attended: bool, errors: &mut Messages<E>)
+    ensures { Says E.contents errors.old errors.new (said_of_values is_attended bad) }
+{
+    errors.say(bad.text().as_bytes());
+    errors.say_if(tells_of_drawing(is_attended, bad), NEW_SECRET);
 }
 
 /// Says why a value isn't read.

@@ -1,18 +1,18 @@
 //! What is said of a refusal, and the exit status that goes with it.
-ghost use Rattle.std.specs.Prelude.{◌≡◌, ◌≢◌, IfOk, IsFalse};
+ghost use Rattle.std.specs.Prelude.{◌≡◌, ◌≢◌, IsFalse};
 ghost use Rattle.std.specs.IoError.{error_kind};
 ghost use Rattle.s39_cli.specs.Ending.{EndsUnbegun};
 ghost use Rattle.s39_cli.specs.Outcome.{status_of, status_of_refusal};
-ghost use Rattle.s39_cli.specs.Said.{IsSaidUnbegun, IsSilentAtNone, Says, SaysAnswer, SaysMessage, file_line, memory_line, no_text_line};
+ghost use Rattle.s39_cli.specs.Said.{IsSaidUnbegun, Says, SaysFault, SaysFormless, SaysMessage, SaysOfNone, file_line, memory_line, no_text_line};
 
 use crate::delivery::Finished;
 use crate::messages::Messages;
-use crate::notes::{BARE, Notes};
+use crate::notes::{BARE, PLAN_FORM};
 use crate::runner::{DEVICE_FAILED, DONE, Ended, NO_JOB, NO_MEMORY, REFUSED};
 use crate::work::Unready;
 use s39_refusal::Cause;
 use s39_text::FaultText;
-use s39_tool::{Fault, Refusal};
+use s39_tool::{Fault, PlanError, Refusal};
 use std::fmt::InlineText;
 use std::io;
 use std::io::{ErrorKind, Write};
@@ -32,19 +32,20 @@ const FILE_BYTES: usize = NAME_BYTES + REASON_BYTES + 12;
 /// Says why a command can't be begun.
 pub(crate) fn unbegun<R: Drop, W: Drop, E: Write>(
     unready: Unready,
+    is_attended: bool,
     input: R,
     output: W,
     errors: &mut Messages<E>,
 ) -> Ended<R, W>
     ensures ends { EndsUnbegun unready input output result }
-    ensures said { IsSaidUnbegun E.contents unready errors.old errors.new result }
+    ensures said { IsSaidUnbegun E.contents is_attended unready errors.old errors.new result }
 {
     let status = match unready {
         Unready::Secret => {
             errors.say(b"shamir: master secret isn't hexadecimal\n");
             NO_JOB
         }
-        Unready::Plan(error) => refuse(error.cause(), errors),
+        Unready::Plan(error) => refuse_plan(error, is_attended, errors),
         Unready::Cursor(error) => refuse(error.cause(), errors),
         Unready::Fingerprint(error) => refuse(error.cause(), errors),
         Unready::Names(error) => refuse(error.cause(), errors),
@@ -55,6 +56,20 @@ pub(crate) fn unbegun<R: Drop, W: Drop, E: Write>(
         input,
         output,
     }
+}
+
+/// Says why a text gives no plan, and to a person which form a plan has, if this text has another. It gives the exit status.
+fn refuse_plan<E: Write>(error: PlanError, is_attended: bool, errors: &mut Messages<E>) -> u8
+    ensures status { result ≡ 1 }
+    ensures formless { error ≡ PlanError.BadPlan
+        → SaysFormless E.contents is_attended errors.old errors.new }
+    ensures formed { error ≢ PlanError.BadPlan → SaysMessage E.contents errors.old errors.new }
+{
+    let status = refuse(error.cause(), errors);
+    if error == PlanError::BadPlan {
+        errors.say_if(is_attended, PLAN_FORM);
+    }
+    status
 }
 
 /// Says why a text of the command line gives nothing, and gives the exit status.
@@ -93,19 +108,18 @@ pub(crate) fn say_of_file<E: Write>(name: &str, reason: &str, errors: &mut Messa
 /// Says what a command answered.
 pub(crate) fn answered<R: Drop, W: Drop, E: Write>(
     finished: Finished<R, W>,
-    notes: Notes,
     errors: &mut Messages<E>,
 ) -> Ended<R, W>
     ensures ends { result ≡ Ended.With (status_of finished.answer) finished.input finished.output }
-    ensures said { SaysAnswer E.contents finished.answer notes.tells_of_none errors.old errors.new }
-    ensures silent { IsSilentAtNone notes.tells_of_none result errors.old errors.new }
+    ensures said { SaysFault E.contents finished.answer errors.old errors.new }
+    ensures silent { status_of finished.answer ≡ 0 → errors.new ≡ errors.old }
 {
     let Finished {
         answer,
         input,
         output,
     } = finished;
-    let status = status_of(answer, notes.tells_of_none, errors);
+    let status = status_of(answer, errors);
     Ended::With {
         status,
         input,
@@ -113,21 +127,26 @@ pub(crate) fn answered<R: Drop, W: Drop, E: Write>(
     }
 }
 
-/// The exit status of an answer. A fault is said, and of an answer without one whether no passphrase was used.
-fn status_of<E: Write>(
-    answer: Result<bool, Fault>,
+/// Says of an answer without a fault that no passphrase was used, if a person is told so.
+pub(crate) fn tell_of_none<E: Write>(
+    answer: &Result<bool, Fault>,
     tells_of_none: bool,
     errors: &mut Messages<E>,
-) -> u8
+)
+    ensures said { SaysOfNone E.contents tells_of_none answer.now errors.old errors.new }
+    ensures silent { IsFalse tells_of_none → errors.new ≡ errors.old }
+{
+    errors.say_if(tells_of_none && answer.is_ok(), BARE);
+}
+
+/// The exit status of an answer. A fault is said.
+fn status_of<E: Write>(answer: Result<bool, Fault>, errors: &mut Messages<E>) -> u8
     ensures status { result ≡ status_of answer }
-    ensures said { SaysAnswer E.contents answer tells_of_none errors.old errors.new }
-    ensures silent { IfOk answer (λ is_well. IsFalse tells_of_none → errors.new ≡ errors.old) }
+    ensures said { SaysFault E.contents answer errors.old errors.new }
 {
     match answer {
-        Ok(is_well) => {
-            errors.say_if(tells_of_none, BARE);
-            if is_well { DONE } else { REFUSED }
-        }
+        Ok(true) => DONE,
+        Ok(false) => REFUSED,
         Err(fault) => report(fault, errors),
     }
 }

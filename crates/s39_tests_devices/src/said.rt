@@ -18,6 +18,15 @@ const SHOWN: &str = "shamir: the passphrase is shown as it is typed\n";
 
 const BARE: &str = "shamir: no passphrase was used: a backup with one gives another secret here\n";
 
+const PLAN_FORM: &str =
+    "shamir: a plan is TofN for one group, or GT/T1ofN1,T2ofN2,.. for several, as 2of3 or 2/2of3,1of1,1of1\n";
+
+const NEW_SECRET: &str =
+    "shamir: shamir-papers new asks step by step; to draw a new secret by hand: od -An -v -tx1 -N16 /dev/urandom | tr -dc 0-9a-f | install -m 600 /dev/stdin /dev/shm/secret\n";
+
+const NO_SECRET: &str =
+    "error: one of --master-secret <HEX> and --master-secret-file <FILE> is required\n\nFor more information, try '--help'.\n";
+
 /// Where the input comes from, and where the output goes.
 type Place = (Source, Destination);
 
@@ -97,7 +106,7 @@ fn asks_for_mnemonics_at_a_terminal(rt: HostRuntime) -> Result<(), Fail> {
 fn asks_for_none_where_a_value_is_refused(rt: HostRuntime) -> Result<(), Fail> {
     let alloc = rt.alloc();
     let one = lines(alloc, &[ONE_OF_ONE])?;
-    let cases: [(&[&str], &str, u8); 7] = [
+    let cases: [(&[&str], &str, u8); 6] = [
         (
             &["shamir", "drill", "--after", "x"],
             "shamir: 61 bad cursor\n",
@@ -111,11 +120,6 @@ fn asks_for_none_where_a_value_is_refused(rt: HostRuntime) -> Result<(), Fail> {
         (
             &["shamir", "drill", "--expect", "x"],
             "shamir: 44 bad fingerprint\n",
-            1,
-        ),
-        (
-            &["shamir", "reissue", "x", "0.0"],
-            "shamir: 31 bad plan\n",
             1,
         ),
         (
@@ -199,6 +203,33 @@ fn tells_nothing_more_after_a_refusal(rt: HostRuntime) -> Result<(), Fail> {
         expect_said(&rt, alloc, (&words, &few, TYPED), &[TYPING, lack], 1)?;
         expect_said(&rt, alloc, (&words, &bad, TYPED), &[TYPING, checksum], 1)?;
     }
+    Ok(())
+}
+
+#[test]
+fn tells_a_person_what_a_plan_and_a_secret_are(rt: HostRuntime) -> Result<(), Fail> {
+    let alloc = rt.alloc();
+    let bad = "shamir: 31 bad plan\n";
+    let members = "shamir: 33 bad number of members in plan group 0\n";
+    let cases: [(&[&str], &str, &str, u8); 4] = [
+        (&["shamir", "create", "1of1"], NO_SECRET, NEW_SECRET, 2),
+        (&["shamir", "reissue", "x", "0.0"], bad, PLAN_FORM, 1),
+        (
+            &["shamir", "resplit", "x", "--random-file=f"],
+            bad,
+            PLAN_FORM,
+            1,
+        ),
+        (&["shamir", "reissue", "3of2", "0.0"], members, "", 1),
+    ];
+    for (words, told, more, status) in cases {
+        expect_said(&rt, alloc, (words, "", TYPED), &[told, more], status)?;
+        expect_said(&rt, alloc, (words, "", SEEN), &[told, more], status)?;
+        expect_said(&rt, alloc, (words, "", PIPED), &[told], status)?;
+    }
+    let create = ["shamir", "create", "x", "--master-secret=00"];
+    expect_said(&rt, alloc, (&create, "", SEEN), &[bad, PLAN_FORM], 1)?;
+    expect_said(&rt, alloc, (&create, "", PIPED), &[bad], 1)?;
     Ok(())
 }
 

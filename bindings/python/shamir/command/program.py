@@ -9,7 +9,7 @@ from shamir.command import devices, help_texts
 from shamir.command.devices import DeviceFailed, Input, ValueFailed, Values, say
 from shamir.command.runs import NoHex, Job, run_create, run_drill, run_recover, run_reissue, run_repair, run_resplit, run_show, run_status
 from shamir.command.table import EXPECT_OF_DRILL, MASTER_SECRET, MASTER_SECRET_FILE, PASSPHRASE, PASSPHRASE_FILE
-from shamir.command.words import BadWords, Call, NoWords, Told, read_words
+from shamir.command.words import BadWords, Call, NoSecret, NoWords, Told, read_words
 
 DONE, REFUSED, NOT_BEGUN, DEVICE_FAILED, NO_MEMORY = range(5)
 
@@ -26,7 +26,11 @@ RUNS: Dict[str, Callable[[Job], bool]] = {
 
 TYPED = "shamir: random bytes aren't typed: pass them in, as with head -c N /dev/urandom | shamir create ..\n"
 SHOWN = "shamir: the passphrase is shown as it is typed\n"
-BARE = "shamir: no passphrase was used: a backup with one gives another secret here\n"
+PLAN_FORM = "shamir: a plan is TofN for one group, or GT/T1ofN1,T2ofN2,.. for several, as 2of3 or 2/2of3,1of1,1of1\n"
+NEW_SECRET = (
+    "shamir: shamir-papers new asks step by step; to draw a new secret by hand: "
+    "od -An -v -tx1 -N16 /dev/urandom | tr -dc 0-9a-f | install -m 600 /dev/stdin /dev/shm/secret\n"
+)
 DROPPED = "shamir: the rest of the input is dropped: end it with Ctrl-D\n"
 
 
@@ -52,6 +56,8 @@ def answered(words: List[str]) -> int:
         return written(told.text)
     except BadWords as bad:
         say(bad.text)
+        if isinstance(bad, NoSecret) and is_attended():
+            say(NEW_SECRET)
         return NOT_BEGUN
     except NoWords:
         say(help_texts.of_program())
@@ -87,18 +93,18 @@ def status_of(call: Call, data: Input) -> int:
         return NOT_BEGUN
     except shamir.Refusal as refusal:
         say(f"shamir: {refusal}\n")
+        if refusal.code == shamir.Code.BAD_PLAN and is_attended():
+            say(PLAN_FORM)
         return REFUSED
     except DeviceFailed as failed:
         return failure(failed)
-    if is_bare(call, data):
-        say(BARE)
     return DONE if is_well else REFUSED
 
 
 def job_of(call: Call, data: Input) -> Job:
     values = devices.read_values(call.value(MASTER_SECRET_FILE), call.value(PASSPHRASE_FILE), data)
     secret, passphrase = texts_of(call, values)
-    return Job(call, data, secret, passphrase)
+    return Job(call, data, secret, passphrase, is_bare(call) and is_attended())
 
 
 def texts_of(call: Call, values: Values) -> Tuple[bytes, bytes]:
@@ -112,10 +118,15 @@ def failure(failed: DeviceFailed) -> int:
     return DEVICE_FAILED
 
 
-def is_bare(call: Call, data: Input) -> bool:
-    """Return whether a person should hear that no passphrase was used."""
+def is_attended() -> bool:
+    """Return whether a person types the input, or sees the output."""
+    return devices.is_terminal(0) or devices.is_terminal(1)
+
+
+def is_bare(call: Call) -> bool:
+    """Return whether secrets are recovered without a passphrase, and without a fingerprint to tell."""
     given = {PASSPHRASE.name, PASSPHRASE_FILE.name, EXPECT_OF_DRILL.name} & set(call.values)
-    return call.command.name in ("recover", "drill") and not given and (data.is_terminal or devices.is_terminal(1))
+    return call.command.name in ("recover", "drill") and not given
 
 
 def drop_rest(status: int, data: Input) -> None:

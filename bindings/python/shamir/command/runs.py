@@ -15,6 +15,7 @@ from shamir.command.words import Call
 T = TypeVar("T")
 
 TYPING = "shamir: type a mnemonic on each line, then press Ctrl-D on an empty line\n"
+BARE = "shamir: no passphrase was used: a backup with one gives another secret here\n"
 HEX = re.compile(rb"(?:[0-9A-Fa-f]{2})*")
 # The first part of a drill has so many quorums, and each part twice as many as the one before.
 FIRST_PART = 8
@@ -28,17 +29,23 @@ class NoHex(Exception):
 
 @dataclass(repr=False)
 class Job:
-    """A command, standard input after its values, the text of the secret, and the passphrase."""
+    """A command, standard input after its values, the text of the secret, the passphrase, and whether a person hears that there is none."""
 
     call: Call
     data: Input
     secret: bytes
     passphrase: bytes
+    tells_of_none: bool
 
     def ask(self) -> None:
         """Say that mnemonics are to be typed, if they are."""
         if self.data.is_terminal:
             devices.say(TYPING)
+
+    def tell_of_none(self) -> None:
+        """Say that no passphrase was used, if a person should hear it."""
+        if self.tells_of_none:
+            devices.say(BARE)
 
     def lines(self, call: Callable[[bytes], object]) -> bytes:
         """Return all lines. A call that the library refuses whatever the lines are is refused before they are read."""
@@ -81,6 +88,7 @@ def run_recover(job: Job) -> bool:
         return shamir.recover(lines, passphrase=job.passphrase, expect=job.call.value(EXPECT_OF_RECOVER))
 
     secret = recovered(job.lines(recovered))
+    job.tell_of_none()
     write_lines([shamir.fingerprint(secret) if FINGERPRINT.name in job.call.flags else secret.hex()])
     return True
 
@@ -101,6 +109,7 @@ def run_drill(job: Job) -> bool:
         left, part, is_well = left - listing.quorums, part * 2, is_well and not listing.mismatches
         if listing.cursor is None or not left:
             devices.write(listing.outcomes + listing.last)
+            job.tell_of_none()
             return is_well
         devices.write(listing.outcomes)
         cursor = listing.cursor

@@ -32,6 +32,10 @@ class BadWords(Exception):
         self.text = f"error: {reason}{TRY_HELP}"
 
 
+class NoSecret(BadWords):
+    """A backup is to be created, and no secret is given."""
+
+
 class NoWords(Exception):
     """There are no words."""
 
@@ -187,7 +191,7 @@ def check(call: Call) -> None:
     given = {*call.values, *call.flags}
     secrets = "--master-secret <HEX> and --master-secret-file <FILE>"
     if call.command.name == "create" and not given & {"master-secret", "master-secret-file"}:
-        raise BadWords(f"one of {secrets} is required")
+        raise NoSecret(f"one of {secrets} is required")
     if {"master-secret", "master-secret-file"} <= given:
         raise BadWords(f"{secrets} can't be given together")
     if {"passphrase", "passphrase-file"} <= given:

@@ -1,6 +1,8 @@
-use Rattle.s39_cli.specs.declared.work.Unready.TheVariants.{Plan as BadPlan}
+use Rattle.std.proofs.Common.{[], subst, sym}
+use Rattle.s39_command.specs.declared.command.Job.{Job}
+use Rattle.s39_cli.specs.Outcome.{HasBadPlan}
 use Rattle.s39_cli.proofs.Ends.{bad_plan}
-use Rattle.s39_cli.proofs.Said.{said_unbegun}
+use Rattle.s39_cli.proofs.Said.{said_of_plan}
 use Rattle.s39_cli.proofs.runner.by_job.Goals as goal
 
 pub returns-in-Err-clause-ends : goal.returns-in-Err-clause-ends
@@ -11,5 +13,6 @@ returns-in-Err-clause-ends g c =
 
 pub returns-in-Err-clause-said : goal.returns-in-Err-clause-said
 returns-in-Err-clause-said g c =
-    said_unbegun g.E.Write.contents c.args.job c.args.notes.types_mnemonics c.args.notes.tells_of_none (BadPlan c.in-Err.error) c.unbegun.result
-    c.args.errors.now c.unbegun.new.errors c.unbegun.ensures.said
+    said_of_plan g.E.Write.contents c.args.job [] c.args.notes.is_attended c.args.notes.types_mnemonics c.args.notes.tells_of_none c.in-Err.error
+    c.unbegun.result c.args.errors.now c.unbegun.new.errors
+    (subst (λ (j : Job). HasBadPlan j [] c.in-Err.error) (sym c.in-Some.ensures.some) c.in-Err.ensures.reading) c.unbegun.ensures.said

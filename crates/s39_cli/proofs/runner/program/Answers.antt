@@ -1,5 +1,6 @@
-use Rattle.std.proofs.Common.{◌≡◌, ℕ, Bor, List, map, option_map}
+use Rattle.std.proofs.Common.{◌≡◌, ℕ, Bool, Bor, List, map, option_map, subst}
 use Rattle.s39_cli.specs.declared.values.NoValue.TheVariants.{TooLong}
+use Rattle.s39_cli.specs.Said.{IsSaidWithoutJob}
 use Rattle.s39_cli.proofs.Ends.{ends_by_job, ends_typed, ends_unread, ends_without_job}
 use Rattle.s39_cli.proofs.Untouched.{job_untouched, jobless_untouched, typed_untouched, unread_untouched}
 use Rattle.s39_cli.proofs.Said.{said_of_job, said_typed, said_unread, said_without_job, silent_job}
@@ -61,7 +62,9 @@ pub returns-in-Err-clause-said : goal.returns-in-Err-clause-said
 returns-in-Err-clause-said g c =
     let words = map (λ (word : Bor (List ℕ)). word.now) c.args.words.now in
     said_without_job g.E.Write.contents c.args.source c.args.destination words c.args.errors.now c.without_job.new.errors c.in-Err.no_job
-    c.without_job.result c.in-Err.ensures.answer c.in-Err.ensures.memory c.without_job.ensures.said
+    c.without_job.result c.in-Err.ensures.answer c.in-Err.ensures.memory
+    (subst (λ (b : Bool). IsSaidWithoutJob g.E.Write.contents b c.in-Err.no_job c.args.errors.now c.without_job.new.errors c.without_job.result)
+    c.is_attended-watched.ensures c.without_job.ensures.said)
 
 pub returns-then-is_typed-clause-said : goal.returns-then-is_typed-clause-said
 returns-then-is_typed-clause-said g c =
@@ -83,8 +86,8 @@ returns-clause-said g c =
     let words = map (λ (word : Bor (List ℕ)). word.now) c.args.words.now in
     let notes = c.of-notes.result in
     said_of_job g.E.Write.contents c.args.source c.args.destination words c.args.errors.now c.by_job.new.errors c.in-Ok.call c.in-Ok.ensures.call
-    c.in-Ok.ensures.faultless notes.types_passphrase notes.types_mnemonics notes.tells_of_none c.say_if.new.self c.by_job.result
-    (c.is_typed.ensures.untyped c.if-is_typed.false) c.of-notes.ensures.passphrase c.of-notes.ensures.mnemonics c.of-notes.ensures.none
+    c.in-Ok.ensures.faultless notes.is_attended notes.types_passphrase notes.types_mnemonics notes.tells_of_none c.say_if.new.self
+    c.by_job.result (c.is_typed.ensures.untyped c.if-is_typed.false) c.of-notes.ensures.attended c.of-notes.ensures.passphrase c.of-notes.ensures.mnemonics c.of-notes.ensures.none
     c.say_if.ensures.said c.by_job.ensures.said
 
 pub returns-clause-silent : goal.returns-clause-silent
