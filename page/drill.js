@@ -40,19 +40,25 @@ export function warnedTime(desk, kind) {
 }
 
 /**
- * Says what a drill over the papers tries. Returns whether to start it; if not, the owner goes back.
+ * Says how many quorums papers have, and which of them are tried.
+ *
+ * @param {Status} status
+ */
+export function saidCount(status) {
+  const total = count(status);
+  return paragraph(say(total <= TRIED_WHOLE ? "drill.count" : "drill.count_part", { total: said(total), first: TRIED_FIRST }));
+}
+
+/**
+ * Says what a drill over papers tries. Returns whether to start it; if not, the owner goes back.
  *
  * @param {Desk} desk
- * @param {Status} status
+ * @param {HTMLElement[]} counts what says how many quorums the papers have
  * @param {Kind} kind
  * @param {{title: string, hasBack: boolean}} what
  */
-export async function askToDrill(desk, status, kind, { title, hasBack }) {
-  const total = count(status);
-  const intro = [
-    paragraph(say("drill.what")),
-    paragraph(say(total <= TRIED_WHOLE ? "drill.count" : "drill.count_part", { total: said(total), first: TRIED_FIRST })),
-  ];
+export async function askToDrill(desk, counts, kind, { title, hasBack }) {
+  const intro = [paragraph(say("drill.what")), ...counts];
   const slow = warnedTime(desk, kind);
   if (slow) intro.push(paragraph(slow, "note"));
   const back = hasBack ? [{ key: "back", label: say("back") }] : [];
@@ -64,11 +70,12 @@ export async function askToDrill(desk, status, kind, { title, hasBack }) {
  *
  * @param {Desk} desk
  * @param {Status} status
- * @param {{title: string, noted: string, isOwn?: boolean}} what `noted` is the expected fingerprint, or empty. `isOwn` says that it is
- *   that of the secret that was just backed up, and that the owner noted none
+ * @param {{title: string, noted: string, isOwn?: boolean, isOld?: boolean}} what `noted` is the expected fingerprint, or empty. `isOwn`
+ *   says that it is that of the secret that was just backed up, and that the owner noted none. `isOld` says that the papers are those
+ *   whose plan changes
  * @returns {Promise<Verdict | {refused: import("./desk.js").Refused}>}
  */
-export async function runDrill(desk, status, { title, noted, isOwn = false }) {
+export async function runDrill(desk, status, { title, noted, isOwn = false, isOld = false }) {
   const total = count(status);
   const isWhole = total <= TRIED_WHOLE;
   const hasPassphrase = await desk.ask("hasPassphrase");
@@ -76,8 +83,8 @@ export async function runDrill(desk, status, { title, noted, isOwn = false }) {
   const table = new Table(title, total, noted, desk.secondsFor(kind), () => desk.stop());
   let isStopped = false;
   try {
-    await desk.askLong("drill", { limit: isWhole ? 0 : TRIED_FIRST, expect: noted }, (part) => table.add(part));
-    if (!isWhole) await tryEachPaper(desk, status, noted, table);
+    await desk.askLong("drill", { limit: isWhole ? 0 : TRIED_FIRST, expect: noted, isOld }, (part) => table.add(part));
+    if (!isWhole) await tryEachPaper(desk, status, { expect: noted, isOld }, table);
   } catch (error) {
     if (error instanceof Declined && error.refused.code === Code.PASSPHRASE) return { refused: error.refused };
     if (!(error instanceof Stopped)) throw error;
@@ -91,16 +98,16 @@ export async function runDrill(desk, status, { title, noted, isOwn = false }) {
  *
  * @param {Desk} desk
  * @param {Status} status
- * @param {string} expect
+ * @param {{expect: string, isOld: boolean}} what
  * @param {Table} table
  */
-async function tryEachPaper(desk, status, expect, table) {
+async function tryEachPaper(desk, status, what, table) {
   const known = new Set(table.tried.map((it) => it.names.join("+")));
   for (const name of status.groups.flatMap((it) => it.names)) {
     const names = quorumWith(status, name);
     if (names === null || known.has(names.join("+"))) continue;
     known.add(names.join("+"));
-    table.add(await desk.askLong("tryOne", { names, expect }));
+    table.add(await desk.askLong("tryOne", { names, ...what }));
   }
 }
 

@@ -202,8 +202,6 @@ OWN: Dict[str, str] = {
     "recover.clear": "Enter: clear the digits",
     "recover.clear.plain": "Enter: go on. The digits stay in this terminal until you close it.",
     "change.extendable": "The old papers have the extendable flag. So this takes no passphrase: each passphrase goes on giving the wallet that it gives now.",
-    "change.drill.old": "The old papers:",
-    "change.drill.new": "The new papers:",
     "change.bare.none": "If you don't have them here, press Enter alone at both questions.",
     "change.repaired": "Words of the old papers were found, and not read, and you noted no fingerprint. So nothing shows that these words are right. Keep the old papers until a wallet that you restored from the new ones shows your addresses.",
     "change.restore": "But first restore the wallet from the new ones, and compare an address.",
