@@ -203,7 +203,7 @@ function tellDone(verdict, { plan, kind: { extendable } }, given) {
     !given && extendable ? paragraph(say(given === null ? "change.bare.noted" : "noted.first")) : null,
     paragraph(saidPlan(plan), "sentence"),
     element("h2", {}, say("change.old.title")),
-    paragraph(say(extendable ? "change.old" : "change.old.renewed")),
+    paragraph(`${say(extendable ? "change.old" : "change.old.renewed")} ${say("change.restore")}`),
     !given && !extendable ? paragraph(say("change.unnoted")) : null,
     paragraph(say("change.mixed")),
     paragraph(say("change.thief")),

@@ -487,6 +487,7 @@ export const TEXTS = {
   "change.new.title": "The new papers",
   "change.old": "The old papers still work until they are destroyed. Old and new papers give the same wallets, with every passphrase. So destroy the old ones, also those that others keep for you, as soon as the new ones are in their places.",
   "change.old.renewed": "The old papers still work until they are destroyed. With this passphrase (none counts as one), old and new papers give the same wallet. With any other, they give different ones. So keep the old papers if you have money under another passphrase. If you don't, destroy them, also those that others keep for you.",
+  "change.restore": "But first restore the wallet from the new ones, and compare an address.",
   "change.mixed": "Never mix old and new papers: they don't work together. Their first two words tell them apart.",
   "change.thief": "If somebody may have enough of the old papers, make a new wallet, and move your money to it.",
   "change.unproved": "Nothing shows yet that old and new papers agree",

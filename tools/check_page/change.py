@@ -118,7 +118,7 @@ def finish(page):
 
 def check_done(page, see, what, texts, green):
     page.wait_title(say("change.done"))
-    for text in (*texts, say("change.same"), say("change.mixed"), say("change.thief")):
+    for text in (*texts, say("change.same"), say("change.restore"), say("change.mixed"), say("change.thief")):
         page.wait_text(text)
     check_green(page, green)
     pictures(page, see, what)
