@@ -11,7 +11,7 @@ import { selfTest } from "./self_test.js";
 
 /** @typedef {import("../bindings/js/shamir.js").Engine} Engine */
 /** @typedef {{group: number, threshold: number, names: string[]}} GroupStatus */
-/** @typedef {{complete: number, required: number, enough: boolean, groups: GroupStatus[]}} Status */
+/** @typedef {{complete: number, required: number, enough: boolean, groups: GroupStatus[], quorums: bigint}} Status */
 /** @typedef {{names: string[], fingerprint: string | null, expected: boolean | null, mismatch: number | null}} Tried */
 /** @typedef {{name: string, words: number, id: number, secretBytes: number, exponent: number, extendable: boolean, groupCount: number, groupThreshold: number, memberThreshold: number, isPossible: boolean}} Kind */
 /** @typedef {{papers: Uint8Array[], old: Uint8Array[], dropped: Uint8Array[], left: Uint8Array[], shown: Uint8Array[], passphrase: Uint8Array, secret: Uint8Array, fingerprint: string}} Held */
@@ -33,12 +33,15 @@ function clear() {
 }
 
 /**
+ * Returns what is complete, and how many quorums there are, or 2^64 - 1 if there are more.
+ *
  * @param {Uint8Array[]} lines
  * @returns {Status}
  */
 function statusOf(lines) {
   const { complete, required, enough, groups } = engine.status(lines);
-  return { complete, required, enough, groups: groups.map(({ group, threshold, names }) => ({ group, threshold, names: [...names] })) };
+  const shown = groups.map(({ group, threshold, names }) => ({ group, threshold, names: [...names] }));
+  return { complete, required, enough, groups: shown, quorums: engine.quorums(lines) };
 }
 
 /**

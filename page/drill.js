@@ -3,7 +3,7 @@ import { Code, OF_GROUPS } from "../bindings/js/refusal.js";
 import { Declined, Stopped } from "./client.js";
 import { button, element, paragraph } from "./dom.js";
 import { estimated } from "./estimate.js";
-import { count, fingerprints, isRight, quorumWith, suspects, TRIED_FIRST, TRIED_WHOLE } from "./quorums.js";
+import { COUNTED_MOST, fingerprints, isRight, quorumWith, suspects, TRIED_FIRST, TRIED_WHOLE } from "./quorums.js";
 import { counted, say, saidTime } from "./say.js";
 import { announce, ask, show } from "./screen.js";
 
@@ -44,8 +44,7 @@ export function warnedTime(desk, kind) {
  *
  * @param {Status} status
  */
-export function saidCount(status) {
-  const total = count(status);
+export function saidCount({ quorums: total }) {
   return paragraph(say(total <= TRIED_WHOLE ? "drill.count" : "drill.count_part", { total: said(total), first: TRIED_FIRST }));
 }
 
@@ -76,7 +75,7 @@ export async function askToDrill(desk, counts, kind, { title, hasBack }) {
  * @returns {Promise<Verdict | {refused: import("./desk.js").Refused}>}
  */
 export async function runDrill(desk, status, { title, noted, isOwn = false, isOld = false }) {
-  const total = count(status);
+  const total = status.quorums;
   const isWhole = total <= TRIED_WHOLE;
   const hasPassphrase = await desk.ask("hasPassphrase");
   const [kind] = await desk.ask("kinds");
@@ -112,12 +111,13 @@ async function tryEachPaper(desk, status, what, table) {
 }
 
 /**
- * Says a whole number of any size.
+ * Says a whole number, up to the one up to which the engine counts.
  *
  * @param {bigint | number} number
  */
 function said(number) {
-  return number.toLocaleString("en");
+  const text = number.toLocaleString("en");
+  return number === COUNTED_MOST ? say("number.least", { number: text }) : text;
 }
 
 /** The table of a drill, and its progress. */

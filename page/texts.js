@@ -108,6 +108,7 @@ export const TEXTS = {
   "minute.many": "{n} minutes",
   "hour.one": "1 hour",
   "hour.many": "{n} hours",
+  "number.least": "at least {number}",
   "time.short": "a second or less",
   "time.about": "This takes about {time}.",
   "time.moment": "This takes a moment.",

@@ -162,6 +162,7 @@ FAULTS = [
     ("a mistyped fingerprint empties all fields", "page/make_backup.js", " ?? (await secret.refusal(desk, plan))", "", of_page(lambda page: refusals.check_values(page, unseen))),
     ("no words are offered as one is typed", "page/word_field.js", "    this.#suggest(letters);\n", "", of_page(lambda page: second_thoughts.check_offered(page, unseen))),
     ("a screen reader isn't told which words are near", "page/word_field.js", 'announce(`${told} ${offered.join(", ")}`)', "announce(told)", of_page(lambda page: second_thoughts.check_offered(page, unseen))),
+    ("a number that is too large to be counted is told as the right one", "page/drill.js", "number === COUNTED_MOST ?", "false ?", of_page(lambda page: long_drill.check_most(page, unseen))),
     ("numbers in several formats", "page/say.js", 'value.toLocaleString("en")', "String(value)", of_page(lambda page: long_drill.check_big(page, unseen))),
     ("'33 words' stands in a second line", "page/style.css", ".counts button.small { min-height: 2.9rem; white-space: nowrap; }", ".counts button.small { min-height: 2.9rem; width: 9rem; }", of_page(lambda page: choices.check_phone(page, unseen))),
     ("throws of a die take the place of random bytes", "page/dice.js", "byte ^ own[at]", "own[at]", of_page(lambda page: choices.check_dice(page, unseen))),
