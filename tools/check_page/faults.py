@@ -189,6 +189,7 @@ FAULTS = [
 ]
 
 if not webkit.missing():
+    FAULTS.append(("texts don't fit if a window gets narrower, looked for in WebKit", "page/style.css", "display: flex; flex-direction: column; gap: .75rem;", "display: grid; gap: .75rem;", lambda folder, url: webkit.check(url, lambda page, what: None, [choices.check_phone])))
     FAULTS.append(("a result is said twice, looked for in WebKit", "page/check_papers.js", "    toldVerdict(verdict),\n", "    toldVerdict(verdict),\n    toldVerdict(verdict),\n", lambda folder, url: webkit.check(url, lambda page, what: None)))
 
 

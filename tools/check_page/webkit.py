@@ -145,10 +145,10 @@ def webkit():
 CHECKS = [journey.check_steps, journey.check_plans, choices.check_phone, tasks.check_papers, tasks.check_recover, tasks.check_replace, tasks.check_damaged, tasks.check_make]
 
 
-def check(url, see):
+def check(url, see, checks=CHECKS):
     """Runs checks of tasks, in a narrow window too."""
     with webkit() as driver:
         page = WebKitPage(driver, url)
         page.wait_title(say("home.title"))
-        for it in CHECKS:
+        for it in checks:
             it(page, lambda what: see(page, what))
