@@ -1,37 +1,8 @@
-// New papers in place of old ones, and what the old ones give. What is computed of the secret isn't kept.
+// New papers in place of old ones. What is computed of the secret isn't kept.
 import { zero } from "./bytes.js";
 import { kindOf } from "./kind.js";
 
 /** @typedef {import("../bindings/js/shamir.js").Engine} Engine */
-
-/**
- * Recovers the secret, and clears it after `use`.
- *
- * @template T
- * @param {Engine} engine
- * @param {Uint8Array[]} papers
- * @param {Uint8Array} passphrase
- * @param {(secret: Uint8Array, fingerprint: string) => T} use
- */
-function withSecret(engine, papers, passphrase, use) {
-  const secret = engine.recover(papers, { passphrase });
-  try {
-    return use(secret, engine.fingerprint(secret));
-  } finally {
-    zero(secret);
-  }
-}
-
-/**
- * Returns the fingerprint of the secret that papers give.
- *
- * @param {Engine} engine
- * @param {Uint8Array[]} papers
- * @param {Uint8Array} passphrase
- */
-export function fingerprintOf(engine, papers, passphrase) {
-  return withSecret(engine, papers, passphrase, (_, fingerprint) => fingerprint);
-}
 
 /**
  * Makes a backup of the secret that papers give, with their exponent and with the same passphrase, and returns the fingerprint of the
@@ -44,7 +15,9 @@ export function fingerprintOf(engine, papers, passphrase) {
  * @returns {{fingerprint: string, made: Uint8Array[]}}
  */
 export function renewed(engine, papers, passphrase, { plan, noted, extendable }) {
-  return withSecret(engine, papers, passphrase, (secret, fingerprint) => {
+  const secret = engine.recover(papers, { passphrase });
+  try {
+    const fingerprint = engine.fingerprint(secret);
     if (noted !== "" && noted !== fingerprint) return { fingerprint, made: [] };
     const { exponent, id } = kindOf(engine, papers[0]);
     const create = () => engine.createBytes(plan, secret, { passphrase, exponent, extendable });
@@ -55,5 +28,7 @@ export function renewed(engine, papers, passphrase, { plan, noted, extendable })
       made = create();
     }
     return { fingerprint, made };
-  });
+  } finally {
+    zero(secret);
+  }
 }

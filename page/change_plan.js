@@ -3,11 +3,11 @@ import { saidLeftOut } from "./check_papers.js";
 import { Declined, Stopped } from "./client.js";
 import { askForMore, askWhatNext, collectPapers } from "./collect.js";
 import { element, paragraph } from "./dom.js";
-import { askToDrill, runDrill, toldVerdict, warnedTime } from "./drill.js";
+import { askToDrill, runDrill, saidCount, toldVerdict, warnedTime } from "./drill.js";
 import { askPassphrase } from "./passphrase.js";
 import { planText, saidPlan } from "./plan.js";
 import { askPlan, PlanChoice } from "./plan_choice.js";
-import { saidError } from "./refusals.js";
+import { saidError, saidRefusal } from "./refusals.js";
 import { say } from "./say.js";
 import { ask, setStep, setSteps, setUnfinished, showWork } from "./screen.js";
 import { writeAll } from "./show_paper.js";
@@ -110,45 +110,31 @@ async function renewWith(desk, made, kind) {
     const given = await askPassphrase(desk, { title: say("change.passphrase"), why: say("change.passphrase.why"), back: say("back"), fault, noted });
     if (given === null) return 0;
     noted = given;
-    const found = await worked(desk, say("make.work"), kind, "renew", { ...made, noted });
-    if (found.value?.words) return found.value.words;
-    fault = found.value ? await saidOther(desk, noted, found.value.fingerprint) : found.fault;
+    const found = await renewed(desk, kind, { ...made, noted });
+    if (found.made?.words) return found.made.words;
+    const other = (await desk.ask("hasPassphrase")) ? "recover.other" : "recover.other.none";
+    fault = found.made ? `${say(other, { noted })} ${found.made.fingerprint}` : found.fault;
   }
 }
 
 /**
- * Asks the worker for something that takes as long as one recovery, or as two, and shows that it works. Returns its answer, or what is
- * wrong.
+ * Lets the worker make papers of the secret, and shows that it works. Returns its answer, or what is wrong.
  *
  * @param {Desk} desk
- * @param {string} title
  * @param {Kind} kind
- * @param {"renew" | "oldFingerprint"} call
- * @param {Record<string, any>} given
- * @returns {Promise<{value: any, fault: string}>}
+ * @param {{plan: string, extendable: boolean, noted: string}} given
+ * @returns {Promise<{made: {fingerprint: string, words: number} | null, fault: string}>}
  */
-async function worked(desk, title, kind, call, given) {
-  // Papers are made of a secret that is recovered first.
-  const seconds = desk.secondsFor(kind) * (call === "renew" ? 2 : 1);
-  showWork(title, warnedTime(desk, kind) ?? say("time.moment"), seconds, () => desk.stop());
+async function renewed(desk, kind, given) {
+  // The secret is recovered, and then encrypted.
+  showWork(say("make.work"), warnedTime(desk, kind) ?? say("time.moment"), desk.secondsFor(kind) * 2, () => desk.stop());
   try {
-    return { value: await desk.askLong(call, given), fault: "" };
+    return { made: await desk.askLong("renew", given), fault: "" };
   } catch (error) {
-    if (error instanceof Stopped) return { value: null, fault: say("change.stopped") };
+    if (error instanceof Stopped) return { made: null, fault: say("change.stopped") };
     if (!(error instanceof Declined)) throw error;
-    return { value: null, fault: saidError(error) };
+    return { made: null, fault: saidError(error) };
   }
-}
-
-/**
- * Says that the old papers give another fingerprint than the noted one.
- *
- * @param {Desk} desk
- * @param {string} noted
- * @param {string} fingerprint
- */
-async function saidOther(desk, noted, fingerprint) {
-  return `${say((await desk.ask("hasPassphrase")) ? "recover.other" : "recover.other.none", { noted })} ${fingerprint}`;
 }
 
 /**
@@ -178,8 +164,8 @@ async function drillAndEnd(desk, made) {
 }
 
 /**
- * Drills with the new papers. What the old ones give is expected. Returns whether the owner ends the task, or what to say before asking
- * again for what was noted.
+ * Drills with the old papers, and then with the new ones, which have to give what the old ones gave. Returns whether the owner ends the
+ * task, or what to say before asking again for what was noted.
  *
  * @param {Desk} desk
  * @param {Made} made
@@ -187,15 +173,19 @@ async function drillAndEnd(desk, made) {
  * @returns {Promise<{answer: "end" | "again", told: string}>}
  */
 async function drillBeside(desk, made, given) {
-  const [status, title, noted] = [await desk.ask("status"), say("change.drill"), given ?? ""];
-  if (!(await askToDrill(desk, status, made.kind, { title, hasBack: true }))) return { answer: "again", told: "" };
-  const old = await worked(desk, say("change.work"), made.kind, "oldFingerprint", {});
-  if (old.value === null) return { answer: "again", told: old.fault };
-  if (noted !== "" && noted !== old.value) return { answer: "again", told: await saidOther(desk, noted, old.value) };
-  const verdict = await runDrill(desk, status, { title, noted: old.value, isOwn: noted === "" });
-  if ("refused" in verdict) return { answer: "again", told: say("fault.other") };
-  const answer = verdict.result === "good" ? await tellDone(verdict, made, given) : await tellFailed(verdict, made.kind);
-  return { answer, told: "" };
+  const [status, oldStatus, noted] = [await desk.ask("status"), await desk.ask("status", { isOld: true }), given ?? ""];
+  const counts = [element("h2", {}, say("change.old.title")), saidCount(oldStatus), element("h2", {}, say("change.new.title")), saidCount(status)];
+  if (!(await askToDrill(desk, counts, made.kind, { title: say("change.drill"), hasBack: true }))) return { answer: "again", told: "" };
+  const old = await runDrill(desk, oldStatus, { title: say("change.work"), noted, isOld: true });
+  if ("refused" in old) return { answer: "again", told: saidRefusal(old.refused) };
+  if (old.result === "other" || old.result === "none") return { answer: "again", told: old.sentences.join(" ") };
+  if (old.result !== "good") return tellUnlike(old, say("change.old.wrong"));
+  const verdict = await runDrill(desk, status, { title: say("change.work.new"), noted: noted || (old.fingerprint ?? ""), isOwn: noted === "" });
+  if ("refused" in verdict) return { answer: "again", told: saidRefusal(verdict.refused) };
+  if (verdict.result === "good") return { answer: await tellDone(verdict, made, given), told: "" };
+  // An extendable backup gives another secret only if the engine failed.
+  const isOther = verdict.result === "other" && !made.kind.extendable;
+  return isOther ? tellUnlike({ ...verdict, sentences: [say("change.other")] }, say("change.other.then"), true) : tellUnlike(verdict, say("change.broken"));
 }
 
 /**
@@ -213,7 +203,7 @@ function tellDone(verdict, { plan, kind: { extendable } }, given) {
     !given && extendable ? paragraph(say(given === null ? "change.bare.noted" : "noted.first")) : null,
     paragraph(saidPlan(plan), "sentence"),
     element("h2", {}, say("change.old.title")),
-    paragraph(say(extendable ? "change.old" : "change.old.renewed")),
+    paragraph(`${say(extendable ? "change.old" : "change.old.renewed")} ${say("change.restore")}`),
     !given && !extendable ? paragraph(say("change.unnoted")) : null,
     paragraph(say("change.mixed")),
     paragraph(say("change.thief")),
@@ -225,16 +215,17 @@ function tellDone(verdict, { plan, kind: { extendable } }, given) {
 }
 
 /**
- * Says that old and new papers don't agree, or that this isn't known. An extendable backup gives another secret only if the engine failed.
+ * Says why nothing shows that old and new papers agree. A drill that was stopped needs no screen of its own.
  *
  * @param {Verdict} verdict
- * @param {Kind} kind
+ * @param {string} next what to do
+ * @param {boolean} [mayRetry] whether another passphrase may show it
+ * @returns {Promise<{answer: "end" | "again", told: string}>}
  */
-function tellFailed({ result, sentences, table }, { extendable }) {
-  const mayRetry = result === "stopped" || (result === "other" && !extendable);
-  const why = mayRetry && result === "other" ? [say("change.other")] : sentences;
-  const next = result === "stopped" ? say("make.unproved") : mayRetry ? say("change.other.then") : say("change.broken");
-  const again = { key: /** @type {const} */ ("again"), label: say(result === "stopped" ? "make.again" : "proof.again"), kind: "primary" };
-  const told = [...why.map((text) => paragraph(text, "bad")), paragraph(next), table];
-  return ask(say("change.unproved"), told, [...(mayRetry ? [again] : []), { key: /** @type {const} */ ("end"), label: say("end") }]);
+async function tellUnlike({ result, sentences, table }, next, mayRetry = false) {
+  if (result === "stopped") return { answer: "again", told: say("change.stopped") };
+  const again = { key: /** @type {const} */ ("again"), label: say("proof.again"), kind: "primary" };
+  const told = [...sentences.map((text) => paragraph(text, "bad")), paragraph(next), table];
+  const answer = await ask(say("change.unproved"), told, [...(mayRetry ? [again] : []), { key: /** @type {const} */ ("end"), label: say("end") }]);
+  return { answer, told: "" };
 }

@@ -1,7 +1,7 @@
 // The task 'Check papers': papers are typed, and every quorum among them is tried.
 import { askForMore, askWhatNext, collectPapers } from "./collect.js";
 import { element, paragraph } from "./dom.js";
-import { askToDrill, runDrill, toldVerdict } from "./drill.js";
+import { askToDrill, runDrill, saidCount, toldVerdict } from "./drill.js";
 import { askPassphrase } from "./passphrase.js";
 import { saidRefusal } from "./refusals.js";
 import { counted, say } from "./say.js";
@@ -79,7 +79,7 @@ export async function drillWithPassphrase(desk, status, kind, { title, steps, re
     if (given === null) return "papers";
     noted = given;
     setStep(steps[1]);
-    if (!(await askToDrill(desk, status, kind, { title, hasBack: true }))) {
+    if (!(await askToDrill(desk, [saidCount(status)], kind, { title, hasBack: true }))) {
       fault = "";
       continue;
     }

@@ -1,7 +1,7 @@
 // The worker. It holds what a task has of papers, secrets and passphrases, and asks the engine. The page sends it byte arrays,
 // which it takes over, and gets names, counts, fingerprints and refusals. It gets words or digits only to show them.
 import { Code, EXPONENT_MAX, load, Refusal } from "../bindings/js/shamir.js";
-import { fingerprintOf, renewed } from "./anew.js";
+import { renewed } from "./anew.js";
 import { hex, unhex, zero } from "./bytes.js";
 import { mix } from "./dice.js";
 import { judge } from "./judge.js";
@@ -11,7 +11,7 @@ import { selfTest } from "./self_test.js";
 
 /** @typedef {import("../bindings/js/shamir.js").Engine} Engine */
 /** @typedef {{group: number, threshold: number, names: string[]}} GroupStatus */
-/** @typedef {{complete: number, required: number, enough: boolean, groups: GroupStatus[]}} Status */
+/** @typedef {{complete: number, required: number, enough: boolean, groups: GroupStatus[], quorums: bigint}} Status */
 /** @typedef {{names: string[], fingerprint: string | null, expected: boolean | null, mismatch: number | null}} Tried */
 /** @typedef {{name: string, words: number, id: number, secretBytes: number, exponent: number, extendable: boolean, groupCount: number, groupThreshold: number, memberThreshold: number, isPossible: boolean}} Kind */
 /** @typedef {{papers: Uint8Array[], old: Uint8Array[], dropped: Uint8Array[], left: Uint8Array[], shown: Uint8Array[], passphrase: Uint8Array, secret: Uint8Array, fingerprint: string}} Held */
@@ -33,12 +33,24 @@ function clear() {
 }
 
 /**
+ * Returns what is complete, and how many quorums there are, or 2^64 - 1 if there are more.
+ *
  * @param {Uint8Array[]} lines
  * @returns {Status}
  */
 function statusOf(lines) {
   const { complete, required, enough, groups } = engine.status(lines);
-  return { complete, required, enough, groups: groups.map(({ group, threshold, names }) => ({ group, threshold, names: [...names] })) };
+  const shown = groups.map(({ group, threshold, names }) => ({ group, threshold, names: [...names] }));
+  return { complete, required, enough, groups: shown, quorums: engine.quorums(lines) };
+}
+
+/**
+ * Returns the papers that are here, or the old ones whose plan changes.
+ *
+ * @param {{isOld?: boolean}} given
+ */
+function papersOf({ isOld = false }) {
+  return isOld ? held.old : held.papers;
 }
 
 /**
@@ -268,14 +280,14 @@ function* outcomes(papers, expect) {
 /**
  * Tries every quorum, or the first `limit`, and passes on what they give in parts.
  *
- * @param {{limit: number, expect: string}} given
+ * @param {{limit: number, expect: string, isOld?: boolean}} given
  * @param {(part: Tried[]) => void} tell
  */
-function drill({ limit, expect }, tell) {
+function drill({ limit, expect, isOld }, tell) {
   /** @type {Tried[]} */
   let part = [];
   let [tried, told] = [0, performance.now()];
-  for (const outcome of outcomes(held.papers, expect)) {
+  for (const outcome of outcomes(papersOf({ isOld }), expect)) {
     part.push(outcome);
     tried += 1;
     if (performance.now() - told > 100) {
@@ -290,11 +302,11 @@ function drill({ limit, expect }, tell) {
 /**
  * Tries the one quorum that these papers are.
  *
- * @param {{names: string[], expect: string}} given
+ * @param {{names: string[], expect: string, isOld?: boolean}} given
  * @returns {Tried[]}
  */
-function tryOne({ names, expect }) {
-  return [...outcomes(held.papers.filter((paper) => names.includes(kindOf(engine, paper).name)), expect)];
+function tryOne({ names, expect, isOld }) {
+  return [...outcomes(papersOf({ isOld }).filter((paper) => names.includes(kindOf(engine, paper).name)), expect)];
 }
 
 /**
@@ -353,10 +365,9 @@ const CALLS = {
   digits: () => hex(held.secret),
   plan: ({ plan, bytes }) => engine.randomNeeded(plan, bytes),
   paper: ({ index }) => held.shown[index].slice(),
-  status: () => statusOf(held.papers),
+  status: (given) => statusOf(papersOf(given)),
   kinds: () => held.papers.map((line) => kindOf(engine, line)),
   fingerprint: () => held.fingerprint,
-  oldFingerprint: () => fingerprintOf(engine, held.old, held.passphrase),
   hasPassphrase: () => held.passphrase.length > 0,
   keep: () => held,
   clear,

@@ -3,7 +3,7 @@ import { Code, OF_GROUPS } from "../bindings/js/refusal.js";
 import { Declined, Stopped } from "./client.js";
 import { button, element, paragraph } from "./dom.js";
 import { estimated } from "./estimate.js";
-import { count, fingerprints, isRight, quorumWith, suspects, TRIED_FIRST, TRIED_WHOLE } from "./quorums.js";
+import { COUNTED_MOST, fingerprints, isRight, quorumWith, suspects, TRIED_FIRST, TRIED_WHOLE } from "./quorums.js";
 import { counted, say, saidTime } from "./say.js";
 import { announce, ask, show } from "./screen.js";
 
@@ -40,19 +40,24 @@ export function warnedTime(desk, kind) {
 }
 
 /**
- * Says what a drill over the papers tries. Returns whether to start it; if not, the owner goes back.
+ * Says how many quorums papers have, and which of them are tried.
+ *
+ * @param {Status} status
+ */
+export function saidCount({ quorums: total }) {
+  return paragraph(say(total <= TRIED_WHOLE ? "drill.count" : "drill.count_part", { total: said(total), first: TRIED_FIRST }));
+}
+
+/**
+ * Says what a drill over papers tries. Returns whether to start it; if not, the owner goes back.
  *
  * @param {Desk} desk
- * @param {Status} status
+ * @param {HTMLElement[]} counts what says how many quorums the papers have
  * @param {Kind} kind
  * @param {{title: string, hasBack: boolean}} what
  */
-export async function askToDrill(desk, status, kind, { title, hasBack }) {
-  const total = count(status);
-  const intro = [
-    paragraph(say("drill.what")),
-    paragraph(say(total <= TRIED_WHOLE ? "drill.count" : "drill.count_part", { total: said(total), first: TRIED_FIRST })),
-  ];
+export async function askToDrill(desk, counts, kind, { title, hasBack }) {
+  const intro = [paragraph(say("drill.what")), ...counts];
   const slow = warnedTime(desk, kind);
   if (slow) intro.push(paragraph(slow, "note"));
   const back = hasBack ? [{ key: "back", label: say("back") }] : [];
@@ -64,20 +69,21 @@ export async function askToDrill(desk, status, kind, { title, hasBack }) {
  *
  * @param {Desk} desk
  * @param {Status} status
- * @param {{title: string, noted: string, isOwn?: boolean}} what `noted` is the expected fingerprint, or empty. `isOwn` says that it is
- *   that of the secret that was just backed up, and that the owner noted none
+ * @param {{title: string, noted: string, isOwn?: boolean, isOld?: boolean}} what `noted` is the expected fingerprint, or empty. `isOwn`
+ *   says that it is that of the secret that was just backed up, and that the owner noted none. `isOld` says that the papers are those
+ *   whose plan changes
  * @returns {Promise<Verdict | {refused: import("./desk.js").Refused}>}
  */
-export async function runDrill(desk, status, { title, noted, isOwn = false }) {
-  const total = count(status);
+export async function runDrill(desk, status, { title, noted, isOwn = false, isOld = false }) {
+  const total = status.quorums;
   const isWhole = total <= TRIED_WHOLE;
   const hasPassphrase = await desk.ask("hasPassphrase");
   const [kind] = await desk.ask("kinds");
   const table = new Table(title, total, noted, desk.secondsFor(kind), () => desk.stop());
   let isStopped = false;
   try {
-    await desk.askLong("drill", { limit: isWhole ? 0 : TRIED_FIRST, expect: noted }, (part) => table.add(part));
-    if (!isWhole) await tryEachPaper(desk, status, noted, table);
+    await desk.askLong("drill", { limit: isWhole ? 0 : TRIED_FIRST, expect: noted, isOld }, (part) => table.add(part));
+    if (!isWhole) await tryEachPaper(desk, status, { expect: noted, isOld }, table);
   } catch (error) {
     if (error instanceof Declined && error.refused.code === Code.PASSPHRASE) return { refused: error.refused };
     if (!(error instanceof Stopped)) throw error;
@@ -91,26 +97,27 @@ export async function runDrill(desk, status, { title, noted, isOwn = false }) {
  *
  * @param {Desk} desk
  * @param {Status} status
- * @param {string} expect
+ * @param {{expect: string, isOld: boolean}} what
  * @param {Table} table
  */
-async function tryEachPaper(desk, status, expect, table) {
+async function tryEachPaper(desk, status, what, table) {
   const known = new Set(table.tried.map((it) => it.names.join("+")));
   for (const name of status.groups.flatMap((it) => it.names)) {
     const names = quorumWith(status, name);
     if (names === null || known.has(names.join("+"))) continue;
     known.add(names.join("+"));
-    table.add(await desk.askLong("tryOne", { names, expect }));
+    table.add(await desk.askLong("tryOne", { names, ...what }));
   }
 }
 
 /**
- * Says a whole number of any size.
+ * Says a whole number, up to the one up to which the engine counts.
  *
  * @param {bigint | number} number
  */
 function said(number) {
-  return number.toLocaleString("en");
+  const text = number.toLocaleString("en");
+  return number === COUNTED_MOST ? say("number.least", { number: text }) : text;
 }
 
 /** The table of a drill, and its progress. */

@@ -1,4 +1,4 @@
-// How many quorums there are, which of them are tried if there are too many, and what a drill's outcomes say together.
+// Which quorums are tried if there are too many, and what a drill's outcomes say together.
 
 /** @typedef {import("./desk.js").Status} Status */
 /** @typedef {import("./desk.js").Tried} Tried */
@@ -6,20 +6,11 @@
 /** A drill tries every quorum of papers that have at most this many. */
 export const TRIED_WHOLE = 100000n;
 
+/** The engine counts up to this number. */
+export const COUNTED_MOST = 2n ** 64n - 1n;
+
 /** Of more quorums, a drill tries this many, and one more for each paper. */
 export const TRIED_FIRST = 1000;
-
-/**
- * Returns in how many ways `few` of `many` can be chosen.
- *
- * @param {number} many
- * @param {number} few
- */
-function ways(many, few) {
-  let found = 1n;
-  for (let at = 1; at <= few; at += 1) found = (found * BigInt(many - few + at)) / BigInt(at);
-  return found;
-}
 
 /**
  * Returns the groups that are complete.
@@ -28,22 +19,6 @@ function ways(many, few) {
  */
 function complete(status) {
   return status.groups.filter((it) => it.names.length >= it.threshold);
-}
-
-/**
- * Returns how many quorums papers have. A quorum takes as many complete groups as are required, and of each as many members as
- * its threshold.
- *
- * @param {Status} status
- */
-export function count(status) {
-  // After each group, `found[n]` is the number of choices in n of the groups up to it.
-  const found = [1n, ...Array.from({ length: status.required }, () => 0n)];
-  for (const { names, threshold } of complete(status)) {
-    const own = ways(names.length, threshold);
-    for (let taken = status.required; taken > 0; taken -= 1) found[taken] += found[taken - 1] * own;
-  }
-  return found[status.required];
 }
 
 /**

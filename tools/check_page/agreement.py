@@ -167,7 +167,7 @@ LOOK = """
   await ask("putBack");
   await ask("drop", { name: "0.0" });
   for (const noted of ["01234567", ""]) await ask("renew", { plan: "2of2", noted, extendable: true });
-  if ((await ask("oldFingerprint")) !== "df41d8fe") throw new Error("the old papers give another secret");
+  await ask("drill", { limit: 0, expect: "", isOld: true });
   const typeBack = async (index) => ask("typedBack", { index, line: await ask("paper", { index }) });
   for (const index of [0, 1]) await typeBack(index);
   await ask("resplit", { plan: "2of3" });

@@ -118,7 +118,7 @@ def finish(page):
 
 def check_done(page, see, what, texts, green):
     page.wait_title(say("change.done"))
-    for text in (*texts, say("change.same"), say("change.mixed"), say("change.thief")):
+    for text in (*texts, say("change.same"), say("change.restore"), say("change.mixed"), say("change.thief")):
         page.wait_text(text)
     check_green(page, green)
     pictures(page, see, what)
@@ -147,7 +147,7 @@ def check_extendable(page, see):
     pictures(page, see, "what was noted")
     answer_passphrase(page, "TREZOr", FINGERPRINT)
     page.push(say("drill.start"))
-    page.wait_text(say("recover.other", noted=FINGERPRINT))
+    page.wait_text(say("verdict.other", quorums=counted(1, "quorum"), noted=FINGERPRINT))
     pictures(page, see, "another fingerprint")
     answer_passphrase(page, PASSPHRASE, None)
     # The fingerprint that was typed before stands there, so none and one are said at once.
@@ -172,7 +172,7 @@ def check_bare(page, see):
             # What was typed before isn't taken.
             answer_passphrase(page, "TREZOr", FINGERPRINT)
             page.push(say("drill.start"))
-            page.wait_text(say("recover.other", noted=FINGERPRINT))
+            page.wait_text(say("verdict.other", quorums=counted(1, "quorum"), noted=FINGERPRINT))
             page.push(say("change.bare"))
         else:
             answer_passphrase(page, passphrase, None)
@@ -253,6 +253,25 @@ def check_refused(page, see):
     page.wait_title(say("home.title"))
 
 
+def check_wrong(page, see):
+    """A wrong paper among the old ones, which the new papers aren't made of, is found: all quorums of the old papers are tried."""
+    old = old_papers()
+    start(page, [old[0], old[1], changed(old[2], value=bytes(16)), old[3]])
+    page.push(say("continue"))
+    write(page, see, old)
+    answer_passphrase(page, PASSPHRASE, FINGERPRINT)
+    for title, count in (("change.old.title", 3), ("change.new.title", 3)):
+        page.wait_text(f"{say(title)}\n\n{say('drill.count', total=count)}")
+    pictures(page, see, "what is tried")
+    page.push(say("drill.start"))
+    page.wait_title(say("change.unproved"))
+    for text in (say("verdict.some", wrong=2, quorums=counted(3, "quorum")), say("verdict.suspects.one", names="0.2"), say("change.old.wrong")):
+        page.wait_text(text)
+    check_green(page, [])
+    pictures(page, see, "a wrong old paper")
+    finish(page)
+
+
 def check_stop(page, see):
     """What takes long tells how far it is, and stops. The papers stay."""
     begin(page, "change")
@@ -312,4 +331,4 @@ def check_identifier(page, _):
         page.wait_title(say("home.title"))
 
 
-CHECKS = [check_extendable, check_bare, check_renewed, check_refused, check_identifier, check_stop]
+CHECKS = [check_extendable, check_bare, check_renewed, check_wrong, check_refused, check_identifier, check_stop]

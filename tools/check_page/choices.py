@@ -308,11 +308,27 @@ ONE_LINE = """
 })()
 """
 PHONE = (390, 844)
+# Returns the texts that reach beyond their boxes.
+CUT = """
+[...document.querySelectorAll('#main button, #main li')].filter((it) => it.checkVisibility() && it.scrollHeight > it.clientHeight + 1)
+  .map((it) => it.textContent.slice(0, 40)).join(' | ')
+"""
 
 
 def check_phone(page, see):
     """On a phone, the answer to a paper is in sight of its fields. Words run down two columns, and a shown paper is seen as a whole."""
-    page.size(*PHONE)
+    for what in ("home", "wallet"):
+        if what == "wallet":
+            page.size(1200, 900)
+            begin(page, "make")
+            page.push(say("continue"))
+            page.wait_title(say("make.wallet"))
+        page.size(*PHONE)
+        if page.evaluate(CUT):
+            raise Failed(f"on a screen that got narrower, texts don't fit into their boxes: {page.evaluate(CUT)}")
+    see("phone wallet")
+    page.push(say("clear"))
+    page.wait_title(say("home.title"))
     begin(page, "check")
     if not page.evaluate(ONE_LINE):
         raise Failed("the numbers of words don't stand in one line")

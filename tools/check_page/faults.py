@@ -116,7 +116,7 @@ FAULTS = [
     ("a new backup needs no noted fingerprint", "page/note_and_drill.js", "mayLack: isOwn", "mayLack: true", of_page(lambda page: tasks.check_make(page, unseen))),
     ("what wasn't compared is green", "page/drill.js", 'isEqual ? "good" : "note"', '"good"', of_page(lambda page: choices.check_looks_of_results(page, unseen))),
     ("a word of the list is green", "page/style.css", ".word.right input { border-color: var(--text);", ".word.right input { border-color: var(--good);", of_page(lambda page: choices.check_looks_of_results(page, unseen))),
-    ("nothing but its colour tells a danger", "page/style.css", ".note::before, .good::before, .bad::before,", ".note::before, .good::before,", of_page(lambda page: choices.check_dangers(page, unseen))),
+    ("nothing but its colour tells a danger", "page/style.css", '.bad::before, .answer.fault::before { content: "!"; content: "!" / "";', ".bad::before, .answer.fault::before { content: none;", of_page(lambda page: choices.check_dangers(page, unseen))),
     ("typing back offers to read a damaged paper", "page/show_paper.js", 'saidError(error, "back")', "saidError(error)", of_page(lambda page: tasks.check_make(page, unseen))),
     ("a heading is read as words", "page/spelling.js", 'replace(HEADING, " ")', "trim()", of_page(lambda page: refusals.check_words(page, unseen))),
     ("papers that no quorum has aren't told in the title", "page/check_papers.js", "left || untried ?", "left ?", of_page(lambda page: astray.check_untried(page, unseen))),
@@ -162,6 +162,7 @@ FAULTS = [
     ("a mistyped fingerprint empties all fields", "page/make_backup.js", " ?? (await secret.refusal(desk, plan))", "", of_page(lambda page: refusals.check_values(page, unseen))),
     ("no words are offered as one is typed", "page/word_field.js", "    this.#suggest(letters);\n", "", of_page(lambda page: second_thoughts.check_offered(page, unseen))),
     ("a screen reader isn't told which words are near", "page/word_field.js", 'announce(`${told} ${offered.join(", ")}`)', "announce(told)", of_page(lambda page: second_thoughts.check_offered(page, unseen))),
+    ("a number that is too large to be counted is told as the right one", "page/drill.js", "number === COUNTED_MOST ?", "false ?", of_page(lambda page: long_drill.check_most(page, unseen))),
     ("numbers in several formats", "page/say.js", 'value.toLocaleString("en")', "String(value)", of_page(lambda page: long_drill.check_big(page, unseen))),
     ("'33 words' stands in a second line", "page/style.css", ".counts button.small { min-height: 2.9rem; white-space: nowrap; }", ".counts button.small { min-height: 2.9rem; width: 9rem; }", of_page(lambda page: choices.check_phone(page, unseen))),
     ("throws of a die take the place of random bytes", "page/dice.js", "byte ^ own[at]", "own[at]", of_page(lambda page: choices.check_dice(page, unseen))),
@@ -173,18 +174,22 @@ FAULTS = [
     ("a new backup has the flag for an older wallet", "page/change_plan.js", 'extendable: chosen.wallet === "flag"', "extendable: true", of_page(lambda page: change.check_renewed(page, unseen))),
     ("new papers have the old identifier", "page/anew.js", "while (kindOf(engine, made[0]).id === id)", "while (false)", of_page(lambda page: change.check_identifier(page, unseen))),
     ("papers are made of another secret than the noted one", "page/anew.js", 'if (noted !== "" && noted !== fingerprint)', "if (false)", of_page(lambda page: change.check_renewed(page, unseen))),
-    ("new papers aren't compared with the old ones", "page/change_plan.js", "noted: old.value,", "noted,", of_page(lambda page: change.check_renewed(page, unseen))),
-    ("old papers aren't compared with the noted fingerprint", "page/change_plan.js", 'if (noted !== "" && noted !== old.value)', "if (false)", of_page(lambda page: change.check_extendable(page, unseen))),
+    ("new papers aren't compared with the old ones", "page/change_plan.js", 'noted: noted || (old.fingerprint ?? "")', "noted", of_page(lambda page: change.check_renewed(page, unseen))),
+    ("old papers aren't compared with the noted fingerprint", "page/change_plan.js", 'title: say("change.work"), noted, isOld', 'title: say("change.work"), noted: "", isOld', of_page(lambda page: change.check_extendable(page, unseen))),
+    ("only the new papers are tried", "page/desk.js", "return isOld ? held.old : held.papers;", "return held.papers;", of_page(lambda page: change.check_wrong(page, unseen))),
+    ("new papers are taken though the old ones don't agree", "page/change_plan.js", '  if (old.result !== "good") return', "  if (false) return", of_page(lambda page: change.check_wrong(page, unseen))),
     ("a plan that was changed without a noted fingerprint is green", "page/change_plan.js", 'isOwn: noted === ""', "isOwn: false", of_page(lambda page: change.check_bare(page, unseen))),
     ("a passphrase that isn't here is taken from before", "page/change_plan.js", 'if (given === null) await desk.ask("passphrase", { passphrase: new Uint8Array() });', "", of_page(lambda page: change.check_bare(page, unseen))),
+    ("old papers are to be destroyed before a wallet read the new ones", "page/change_plan.js", ' ${say("change.restore")}', "", of_page(lambda page: change.check_bare(page, unseen))),
     ("old papers stay among the new ones", "page/desk.js", "[held.papers, [], made]", "[held.papers, [...held.papers], made]", of_page(lambda page: change.check_bare(page, unseen))),
     ("new papers that are half written are cleared at once", "page/change_plan.js", 'unfinished: "clear.changed"', 'unfinished: ""', of_page(lambda page: change.check_extendable(page, unseen))),
     ("an extendable backup is made of its secret", "page/change_plan.js", "kinds[0].extendable ? split", "false ? split", of_page(lambda page: change.check_bare(page, unseen))),
-    ("a change of the plan can't be stopped", "page/change_plan.js", "await desk.askLong(call, given)", "await desk.ask(call, given)", of_page(lambda page: change.check_stop(page, unseen))),
+    ("a change of the plan can't be stopped", "page/change_plan.js", "await desk.askLong(\"renew\", given)", "await desk.ask(\"renew\", given)", of_page(lambda page: change.check_stop(page, unseen))),
     ("a word that only habit decided isn't marked", "page/word_field.js", "    if (isGuessed) this.#events.guessed(this.#at);\n", "", of_page(lambda page: entry.check_guessed(page, unseen))),
 ]
 
 if not webkit.missing():
+    FAULTS.append(("texts don't fit if a window gets narrower, looked for in WebKit", "page/style.css", "display: flex; flex-direction: column; gap: .75rem;", "display: grid; gap: .75rem;", lambda folder, url: webkit.check(url, lambda page, what: None, [choices.check_phone])))
     FAULTS.append(("a result is said twice, looked for in WebKit", "page/check_papers.js", "    toldVerdict(verdict),\n", "    toldVerdict(verdict),\n    toldVerdict(verdict),\n", lambda folder, url: webkit.check(url, lambda page, what: None)))
 
 

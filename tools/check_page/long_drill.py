@@ -42,6 +42,14 @@ def check_big(page, see):
     end(page)
 
 
+def check_most(page, _):
+    """The engine counts no further than 2^64 - 1."""
+    for number, text in ((2**64 - 1, say("number.least", number=f"{2**64 - 1:,}")), (2**64 - 2, f"{2**64 - 2:,}")):
+        told = page.evaluate(f"in_drill.saidCount({{ quorums: {number}n }}).textContent")
+        if told != say("drill.count_part", total=text, first=f"{FIRST:,}"):
+            raise Failed(f"of {number} quorums the page says {told!r}")
+
+
 def check_bar(page):
     """A bar moves, and says that the time which is left is an estimate."""
     at = "document.querySelector('.estimate progress').value"
@@ -108,4 +116,4 @@ def check_stop_make(page, _):
     page.wait_title(say("home.title"))
 
 
-CHECKS = [check_big, check_stop, check_stop_drill, check_stop_make]
+CHECKS = [check_big, check_most, check_stop, check_stop_drill, check_stop_make]

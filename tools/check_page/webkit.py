@@ -107,11 +107,13 @@ class WebKitPage(Page):
     def size(self, width, height, ratio=1):
         """Gives the page this size. The bar of MiniBrowser keeps its window from being as narrow as a phone."""
         del ratio
+        self.wait(lambda: self.takes(width, height), f"a window of {width} by {height}")
+
+    def takes(self, width, height):
+        """Asks for this size, and returns whether the page has it. It may come only after the answer."""
         self.driver.ask("POST", "/window/rect", {"width": width, "height": height})
         self.driver.ask("POST", "/window/rect", {"width": width, "height": height + height - self.evaluate("innerHeight")})
-        here = self.evaluate("[innerWidth, innerHeight]")
-        if here != [max(width, NARROWEST), height]:
-            raise Failed(f"WebKit's window isn't {width} by {height}, but {here}")
+        return self.evaluate("[innerWidth, innerHeight]") == [max(width, NARROWEST), height]
 
 
 def free_port():
@@ -145,10 +147,10 @@ def webkit():
 CHECKS = [journey.check_steps, journey.check_plans, choices.check_phone, tasks.check_papers, tasks.check_recover, tasks.check_replace, tasks.check_damaged, tasks.check_make]
 
 
-def check(url, see):
+def check(url, see, checks=CHECKS):
     """Runs checks of tasks, in a narrow window too."""
     with webkit() as driver:
         page = WebKitPage(driver, url)
         page.wait_title(say("home.title"))
-        for it in CHECKS:
+        for it in checks:
             it(page, lambda what: see(page, what))

@@ -124,6 +124,22 @@ def check_refused():
         end_by_keys(owner)
 
 
+def check_wrong():
+    """A wrong paper among the old ones, which the new papers aren't made of, is found: all quorums of the old papers are tried."""
+    old, noted = backup("2of3", True)
+    with started("change") as owner:
+        owner.collect([*old[:2], changed(old[2], value=bytes(16))])
+        change(owner, "1of1")
+        owner.passphrase(PASSPHRASE, noted)
+        owner.wait(AGAIN)
+        for key in ("change.old.title", "change.unproved", "change.old.wrong"):
+            owner.expect(say(key))
+        owner.expect(say("verdict.suspects.one", names="0.2"))
+        silent(owner, say("change.done"))
+        owner.answer(AGAIN, "e")
+        owner.end(0, "closed.changing")
+
+
 def check_ways():
     """An Enter too many and ways back lose nothing. Until old and new papers agree, whoever ends is told to keep the old ones."""
     old, noted = backup("2of3", False)
@@ -211,7 +227,7 @@ def check_lost():
         end_by_keys(owner)
 
 
-CHECKS = [check_flagless, check_unnoted, check_refused, check_ways, check_pasted, check_lost]
+CHECKS = [check_flagless, check_unnoted, check_refused, check_wrong, check_ways, check_pasted, check_lost]
 
 
 def check(see):

@@ -50,6 +50,7 @@ FAULTS = [
     ("the exponent of old papers is lost", "change", "Choices(exponent=desk.papers[0].exponent)", "Choices()", lambda see: change.check_flagless()),
     ("new papers aren't compared with the old ones", "agree", "run_drill(screen, new, first.fingerprint, is_own=not noted)", 'run_drill(screen, new, "", is_own=not noted)', lambda see: change.check_flagless()),
     ("old papers aren't compared with the note", "agree", 'if first.result != "good":', "if False:", lambda see: change.check_refused()),
+    ("a wrong old paper isn't told from the others", "agree", 'if first.result in ("some", "several"):', "if False:", lambda see: change.check_wrong()),
     ("what wasn't compared with a note is said to be right", "change", '"" if verdict.is_own else "good"', '"good"', lambda see: change.check_unnoted()),
     ("old papers are to be destroyed though nothing was compared", "change", "if verdict.is_own and (is_repaired", "if False and (is_repaired", lambda see: change.check_unnoted()),
     ("old papers aren't kept before new ones are proved", "change", 'desk.written = "changing"', 'desk.written = "unfinished"', lambda see: change.check_ways()),

@@ -19,12 +19,12 @@ if sys.version_info < (3, 10):
 import shamir  # noqa: E402
 import shamir.papers  # noqa: E402
 from shamir.papers.desk import Desk, paper_of  # noqa: E402
-from shamir.papers.drill import verdict_of  # noqa: E402
+from shamir.papers.drill import said_total, verdict_of  # noqa: E402
 from shamir.papers.entry import Entry, said_count  # noqa: E402
 from shamir.papers.found import ask_paper  # noqa: E402
 from shamir.papers.paste import papers_in  # noqa: E402
 from shamir.papers.plan import plan_of, said_dangers, said_plan, said_singles, said_takes  # noqa: E402
-from shamir.papers.quorums import Tried, count, quorum_with, suspects  # noqa: E402
+from shamir.papers.quorums import Tried, quorum_with, suspects  # noqa: E402
 from shamir.papers.spelling import Misplaced, continued, has_idle_number, nearest, numbers_of, parts_of, placed, said_empty, seems_bip39  # noqa: E402
 from shamir.papers.texts import OWN, TABLE, TASKS, _page, say  # noqa: E402
 
@@ -501,10 +501,13 @@ def outcome(names, fingerprint):
 class VerdictTests(unittest.TestCase):
     def test_quorums(self):
         status = shamir.status(FIVE)
-        self.assertEqual(count(status), len(list(shamir.drill(FIVE, fingerprints=True))))
         self.assertEqual(quorum_with(status, "2.0"), ("0.0", "0.1", "2.0"))
         self.assertEqual(quorum_with(status, "0.2"), ("0.0", "0.2", "1.0"))
         self.assertIsNone(quorum_with(shamir.status(FIVE[:1]), "0.0"))
+
+    def test_most(self):
+        self.assertEqual(said_total(2**64 - 1), say("number.least", number="18,446,744,073,709,551,615"))
+        self.assertEqual(said_total(2**64 - 2), "18,446,744,073,709,551,614")
 
     def test_all_right(self):
         tried = [outcome("0.0+0.1", "01234567"), outcome("0.0+0.2", "01234567"), outcome("0.1+0.2", "01234567")]

@@ -35,12 +35,14 @@ def agree(screen: Screen, old: Desk, new: Desk) -> Optional[Verdict]:
 
 def _drilled(screen: Screen, old: Desk, new: Desk, noted: str) -> Verdict:
     """Drills the old papers, and then the new ones with the fingerprint that these gave. Returns what is wrong, or else that all agree."""
-    screen.tell(say("change.drill.old"), "strong")
+    screen.tell(say("change.old.title"), "strong")
     first = run_drill(screen, old, noted)
+    if first.result in ("some", "several"):
+        first.sentences.append(say("change.old.wrong"))
     if first.result != "good":
         return first
     new.set_passphrase(bytearray(old.passphrase))
-    screen.tell(say("change.drill.new"), "strong")
+    screen.tell(say("change.new.title"), "strong")
     second = run_drill(screen, new, first.fingerprint, is_own=not noted)
     if second.result == "good":
         second.sentences = [" ".join([*second.sentences, say("change.same")])] if noted else [say("change.agree")]

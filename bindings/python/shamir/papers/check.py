@@ -61,7 +61,7 @@ def _tell(screen: Screen, desk: Desk, verdict: Verdict, noted: str) -> str:
     _tell_tried(screen, desk, verdict)
     if result in ("other", "none"):
         again = say("check.again" if verdict.has_passphrase else "check.again.none")
-        screen.tell(f"{again} {say('check.none')}")
+        screen.tell(f"{again} {say(f'check.{result}')}")
     elif result != "good":
         screen.tell(say("noted.first" if result == "same" else f"check.{result}"))
     _tell_repaired(screen, desk, verdict, result)

@@ -149,6 +149,10 @@ class Desk:
     def status(self) -> shamir.Status:
         return shamir.status(self.lines)
 
+    def quorums(self) -> int:
+        """Returns how many quorums the papers have, or 2**64 - 1 if they have more."""
+        return shamir.quorums(self.lines)
+
     def make(self, plan: str, secret: bytearray, exponent: int, extendable: bool) -> Tuple[List[Paper], str]:
         """Makes a backup. Returns its papers, and the fingerprint of the secret. If papers are here, the new ones have another identifier,
         so that nobody takes both for one backup."""

@@ -9,7 +9,7 @@ from typing import Callable, Iterable, List, Optional, Sequence, Tuple
 
 import shamir
 from shamir.papers.desk import Desk, Paper, derivation_seconds
-from shamir.papers.quorums import TRIED_FIRST, TRIED_WHOLE, Tried, count, fingerprints, gives, quorum_with, suspects
+from shamir.papers.quorums import COUNTED_MOST, TRIED_FIRST, TRIED_WHOLE, Tried, fingerprints, gives, quorum_with, suspects
 from shamir.papers.screen import Screen, Stopped
 from shamir.papers.texts import counted, one_or_many, said_time, say
 
@@ -67,27 +67,30 @@ def run_drill(screen: Screen, desk: Desk, noted: str, is_own: bool = False) -> V
 
     `noted` is the expected fingerprint, or empty. `is_own` says that it is that of the secret that was just backed up.
     """
-    status, tried = desk.status(), list[Tried]()
-    total = count(status)
+    total, tried = desk.quorums(), list[Tried]()
     is_whole = total <= TRIED_WHOLE
     screen.tell(say("drill.what"))
-    screen.tell(say("drill.count" if is_whole else "drill.count_part", total=f"{total:,}", first=f"{TRIED_FIRST:,}"))
+    screen.tell(say("drill.count" if is_whole else "drill.count_part", total=said_total(total), first=f"{TRIED_FIRST:,}"))
     warned_time(screen, desk.papers[0])
     is_stopped = False
     try:
-        _try(screen, desk, status, tried, noted)
+        _try(screen, desk, total, tried, noted)
     except Stopped:
         is_stopped = True
     return verdict_of(list(tried), total, noted, is_own, is_stopped, bool(desk.passphrase))
 
 
-def _try(screen: Screen, desk: Desk, status: shamir.Status, tried: List[Tried], noted: str) -> None:
+def said_total(total: int) -> str:
+    """Says how many quorums there are, up to the number up to which the library counts."""
+    return say("number.least", number=f"{total:,}") if total == COUNTED_MOST else f"{total:,}"
+
+
+def _try(screen: Screen, desk: Desk, total: int, tried: List[Tried], noted: str) -> None:
     """Tries every quorum, or, if there are too many, the first ones, and one with each paper that none of these has."""
-    total = count(status)
-    is_whole = total <= TRIED_WHOLE
+    status, is_whole = desk.status(), total <= TRIED_WHOLE
 
     def progress() -> str:
-        return say("drill.tried", tried=f"{len(tried):,}", total=f"{total:,}")
+        return say("drill.tried", tried=f"{len(tried):,}", total=said_total(total))
 
     stopped = threading.Event()
     try:
@@ -109,7 +112,7 @@ def verdict_of(tried: Sequence[Tried], total: int, noted: str, is_own: bool, is_
     if result == "other" and not has_passphrase:
         sentences = [say("verdict.other.none", quorums=counted(len(tried), "quorum"), noted=noted)]
     if is_stopped or len(tried) != total:
-        sentences.insert(0, say("drill.part", tried=f"{len(tried):,}", total=f"{total:,}"))
+        sentences.insert(0, say("drill.part", tried=f"{len(tried):,}", total=said_total(total)))
     wanted = _wanted(noted, found)
     right = _names(it for it in tried if gives(it, wanted))
     return Verdict("stopped" if is_stopped else result, sentences, _names(tried), right, has_passphrase, is_own, wanted)

@@ -1,7 +1,6 @@
-"""How many quorums there are, which of them are tried if there are too many, and what a drill's outcomes say together."""
+"""Which quorums are tried if there are too many, and what a drill's outcomes say together."""
 from __future__ import annotations
 
-import math
 from collections import Counter
 from dataclasses import dataclass
 from typing import List, Optional, Sequence, Tuple
@@ -10,6 +9,8 @@ import shamir
 
 # A drill tries every quorum of papers that have at most this many.
 TRIED_WHOLE = 100_000
+# The library counts up to this number.
+COUNTED_MOST = 2**64 - 1
 # Of more quorums, a drill tries this many, and one more for each paper.
 TRIED_FIRST = 1_000
 
@@ -31,18 +32,6 @@ def gives(tried: Tried, fingerprint: str) -> bool:
 
 def complete(status: shamir.Status) -> List[shamir.GroupStatus]:
     return [group for group in status.groups if len(group.names) >= group.threshold]
-
-
-def count(status: shamir.Status) -> int:
-    """Returns how many quorums papers have. A quorum takes as many complete groups as are required, and of each as many members
-    as its threshold."""
-    # After each group, found[n] is the number of choices in n of the groups up to it.
-    found = [1] + [0] * status.required
-    for group in complete(status):
-        own = math.comb(len(group.names), group.threshold)
-        for taken in range(status.required, 0, -1):
-            found[taken] += found[taken - 1] * own
-    return found[status.required]
 
 
 def quorum_with(status: shamir.Status, name: str) -> Optional[Tuple[str, ...]]:
