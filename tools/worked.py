@@ -82,6 +82,11 @@ SLOW_UNEVEN_1 = "academic acid academic agency dragon mineral broken simple lips
 HIGH_OLD_0 = "enemy flavor academic acid cowboy phrase havoc level response walnut budget painting inside trash adjust froth kitchen display birthday exhaust"
 HIGH_OLD_2 = "enemy flavor academic always academic sniff script carpet romp kind promise scatter center unfair training emphasis evening practice painting regret"
 HIGH_NEW_ONE = "cleanup pile academic academic broken exact editor public best party forecast darkness burning yelp window mama warmth destroy mayor element"
+# A vector whose secret has 32 bytes.
+LONG = "theory painting academic academic armed sweater year military elder discuss acne wildlife boring employer fused large satoshi bundle carbon diagnose anatomy hamster leaves tracks paces beyond phantom capital marvel lips brave detect luck"
+# The only members of two groups of which one is needed, with two values: that of the first vector, and another. Another program wrote them.
+OTHER_GROUP_0 = "duckling enlarge academic easy agency result length solution fridge kidney coal piece deal husband erode duke ajar glasses leaf dive"
+OTHER_GROUP_1 = "duckling enlarge away easy academic acrobat aluminum debris activity alarm busy learn election animal deal snapshot likely standard alien paper"
 
 
 @dataclass(frozen=True)
@@ -205,6 +210,7 @@ ONE_KEPT, ONE_ENCRYPTED = (7945, 0, 0), bytes.fromhex("11bc609d21747c49ba78c0701
 TWO_KEPT, TWO_ENCRYPTED = (25653, 0, 2), bytes.fromhex("cdc017fddc829e791b1371780be0605a")
 FIVE_KEPT, FIVE_ENCRYPTED = (1, 0, 0), bytes.fromhex("ae3283670d8226e104447ff0a4a32f69")
 OLD_KEPT, OLD_ENCRYPTED = (9066, 1, 0), bytes.fromhex("644c905b0c4da21692f06fff3ed8b3e1")
+LONG_KEPT, LONG_ENCRYPTED = (29172, 0, 0), bytes.fromhex("d772fee46424e100bec16d165f1fcc346d1e8d909da580f9f9f04ea5c788d212")
 SLOW_KEPT, SLOW_ENCRYPTED = (29019, 1, 3), bytes.fromhex("9e8773c7313b11d3bfe219291976433b")
 
 # After the output come the parameters.
@@ -214,6 +220,10 @@ ENCRYPTED: List[Row] = [
     (["# a note", "", FIVE_4, FIVE_3], DONE, FIVE_ENCRYPTED, FIVE_KEPT),
     ([OLD_0, OLD_2], DONE, OLD_ENCRYPTED, OLD_KEPT),
     ([EXTENDABLE], DONE, SLOW_ENCRYPTED, SLOW_KEPT),
+    ([HIGH_OLD_0, HIGH_OLD_2], DONE, OLD_ENCRYPTED, (9066, 1, 15)),
+    ([LONG], DONE, LONG_ENCRYPTED, LONG_KEPT),
+    ([OTHER_GROUP_1, OTHER_GROUP_0], DONE, ONE_ENCRYPTED, ONE_KEPT),
+    ([OLD_0, OLD_FORGED_2], Answer(51, "digest mismatch in group 0"), "", None),
     # The first quorum is taken, and no other one is tried.
     ([FIVE_0, FIVE_1, FORGED_2, FIVE_3, FIVE_4], DONE, FIVE_ENCRYPTED, FIVE_KEPT),
     ([FORGED_0, FIVE_1, FIVE_2, FIVE_3, FIVE_4], Answer(51, "digest mismatch in group 0"), "", None),
@@ -234,6 +244,11 @@ DECRYPTED: List[Row] = [
     (SLOW_KEPT, SLOW_ENCRYPTED, KEY, None, DONE, bytes.fromhex("1679b4516e0ee5954351d288a838f45e")),
     # The identifier of an extendable backup isn't in the encryption.
     ((32767, 1, 0), OLD_ENCRYPTED, KEY, None, DONE, bytes.fromhex("48b1a4b80b8c209ad42c33672bdaa428")),
+    ((7945, 1, 0), ONE_ENCRYPTED, KEY, None, DONE, bytes.fromhex("941215fb2febb8a90226a06bb2da7369")),
+    ((7946, 0, 0), ONE_ENCRYPTED, KEY, None, DONE, bytes.fromhex("e20b307c61a45bb484d686d8e3d2fc21")),
+    ((7945, 0, 1), ONE_ENCRYPTED, KEY, None, DONE, bytes.fromhex("35924c22e1e77fd21bcfe7d47deb384b")),
+    (LONG_KEPT, LONG_ENCRYPTED, KEY, None, DONE, bytes.fromhex("989baf9dcaad5b10ca33dfd8cc75e42477025dce88ae83e75a230086a0e00e92")),
+    ((0, 1, 0), bytes(range(128)), KEY, None, DONE, bytes.fromhex("bb03bc2138fc7b225d025b78a69e07185dab20232a0f825f0e6c196274d9b21d927bbe7014e03f56407de94bdc27fce4aa30a9be92d53c485611f89aba163fed347ca4c8dcb6b2a9440b8e94326619b956c546b07eada77c64cf6e228c91ec6d86866445af8b37d19349b407b4a771ff0abb70bf1aae2ac2922b026b78967725")),
     ((32768, 0, 0), None, "a\x07", "0", Answer(2, "number out of range"), ""),
     ((65535, 1, 0), ONE_ENCRYPTED, KEY, None, Answer(2, "number out of range"), ""),
     ((1, 2, 0), None, "a\x07", "0", Answer(2, "number out of range"), ""),
