@@ -143,6 +143,14 @@ class Terminals(unittest.TestCase):
         self.assertIn("type a mnemonic on each line", shown)
         self.assertRegex(shown, r"no passphrase was used: [^\n]*\n[0-9a-f]{32}\n$")
 
+    def test_words_beside_help_and_the_version(self):
+        self.assertEqual(ran("help", "create"), ran("create", "--help"))
+        self.assertEqual(ran("help")[:2], ran("--help")[:2])
+        refused = "error: --version takes no other argument, and help at most one command\n\nFor more information, try '--help'.\n"
+        for words in [("-V", "x"), ("help", "-V"), ("help", "create", "2of3")]:
+            self.assertEqual(ran(*words), (2, "", refused))
+        self.assertEqual(ran("help", "list")[0], 2)
+
     def test_what_helps_a_person(self):
         status, shown = self.typed(["create", "2of3"], b"")
         self.assertEqual(status, 2)

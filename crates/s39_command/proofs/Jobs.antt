@@ -1,6 +1,6 @@
 -- What the words of a command line give.
 use Rattle.std.proofs.Common.{◌≡◌, ◌⊎◌, ◌∙◌, ◌<◌, ◌≤◌, ⊎_elim, ℕ, arith, codes, Bool, inl, inr, refl, sym, ap, subst, true, false, true≢false, List}
-use Rattle.std.proofs.Common.{[], ◌∷◌, Option, Some, None, is_some, Bor, Global}
+use Rattle.std.proofs.Common.{[], ◌∷◌, Option, Some, None, is_some, length, Bor, Global}
 use Rattle.std.specs.Prelude.{Box, option_map, slice_get}
 use Rattle.std.specs.Option.{option_map_or}
 use Rattle.std.specs.Str.Parse.{ParsesUnsigned, ExplainsUnsignedError, HasUnsignedDigitsIfOk}
@@ -12,16 +12,14 @@ use Rattle.clap.specs.Words.{App, HasMatchesOf, IsAmong, Kinds, ReadsOne, Row, R
 use Rattle.clap.specs.Words.{one_text, rows_of, is_simple, is_simple_and_free, subcommand_name_of, subcommand_of, subcommand_rows, subcommand_rows_of}
 use Rattle.clap.specs.Words.{takes}
 use Rattle.clap.specs.declared.error.kind.ErrorKind.{ErrorKind}
-use Rattle.clap.specs.Faults.{walk_fault}
-use Rattle.clap.specs.Takes.{walk_passes}
-use Rattle.clap.specs.declared.error.kind.ErrorKind.TheVariants.{DisplayHelp, DisplayVersion, InvalidSubcommand, OutOfMemory, UnknownArgument}
+use Rattle.clap.specs.declared.error.kind.ErrorKind.TheVariants.{DisplayHelp, DisplayVersion, OutOfMemory}
 use Rattle.clap.specs.declared.parser.matches.ArgMatches.{ArgMatches}
 use Rattle.clap.specs.declared.parser.matches.ArgMatches.TheViews.{out-ArgMatches, out-SubCommand}
 use Rattle.clap.specs.declared.parser.matches.SubCommand.{SubCommand}
 use Rattle.clap.specs.declared.parser.matches.Found.{Found}
 use Rattle.clap.proofs.CallerLemmas.{some_of_text}
-use Rattle.clap.proofs.WalkLemmas.{both, first_value-rows, one_text-rows}
-use Rattle.s39_clap.specs.Faults.{is_mistake, is_settled_app}
+use Rattle.clap.proofs.WalkLemmas.{first_value-rows, one_text-rows}
+use Rattle.s39_clap.specs.Faults.{is_mistake}
 use Rattle.s39_clap.specs.Found.{EntersOne, HasNumber, IsFilled}
 use Rattle.s39_clap.proofs.Agreement.{faultless_taken, one_request_or_mistakes, request_alone}
 use Rattle.s39_clap.proofs.Entered.{enters_some, taken_enters_one}
@@ -29,15 +27,12 @@ use Rattle.s39_clap.proofs.Values.{flag_said, has_value, number_read}
 use Rattle.s39_command.specs.Command.{AnswersKind, AnswersWords, AsksForText, IsFormSaid, commands, exponent_rule, extendable_rule, fingerprint_rule, flag_text}
 use Rattle.s39_command.specs.Command.{limit_rule, names_rule, random_file_rule}
 use Rattle.s39_command.specs.Command.{plan_rule}
-use Rattle.s39_command.specs.Command.{IsGiven, IsHelp, SaysHelp, shamir_app}
+use Rattle.s39_command.specs.Command.{IsGiven, SaysHelp, shamir_app}
 use Rattle.s39_kdf.specs.declared.secret_form.SecretForm.{SecretForm}
 use Rattle.s39_kdf.specs.declared.secret_form.SecretForm.TheVariants.{Digits, Fingerprint}
+use Rattle.s39_command.proofs.Help.{help_faults, says_help, settled_app}
 use Rattle.s39_command.specs.declared.command.NoJob.{NoJob}
 use Rattle.s39_command.specs.declared.command.NoJob.TheVariants.{Help, Refused, Values, Memory}
-
-settled_app : is_settled_app shamir_app ≡ true
-unfolding shamir_app
-settled_app = refl
 
 -- the program's definition is one of which the faults are known
 pub known_faults : (a : App) → a ≡ shamir_app → is_simple_and_free a ≡ true
@@ -336,17 +331,29 @@ pub met_enters : (a : App) (words : List Text) (name : Text) (rows : List Row) �
     → subcommand_of shamir_app words ≡ Some (name, rows) → EntersOne commands (Some (name, rows))
 met_enters a words name rows is none met = subst (EntersOne commands) met (enters_one words (no_fault_taken a words is none))
 
+-- an error that goes with a text is no mistake
+asks_of : (k : ErrorKind) (count : ℕ) → (k ≡ DisplayHelp) ⊎ ((k ≡ DisplayVersion) × (count ≡ 2)) → is_mistake k ≡ false
+asks_of k count shown = ⊎_elim (λ h. ap is_mistake h) (λ v. ap is_mistake v.0) shown
+
 -- an error of one of the words' kinds gets the answer that the words get
-pub answer_by_kind : (answer : NoJob) (k : ErrorKind) (a : App) (words : List Text) → a ≡ shamir_app → AnswersKind answer k
+pub answer_by_kind : (answer : NoJob) (k : ErrorKind) (a : App) (words : List Text) → a ≡ shamir_app → AnswersKind answer k (length words)
     → (k ≡ OutOfMemory) ⊎ IsAmong k (fault_of a words) → (takes a words ≡ true → k ≡ OutOfMemory) → (SaysHelp words → ⊥) → AnswersWords answer words
 answer_by_kind Memory k a words is shown among passes unsaid = tt
 answer_by_kind (Values bad) k a words is shown among passes unsaid = absurd shown
 answer_by_kind (Help text) k a words is shown among passes unsaid =
-    let asks : is_mistake k ≡ false = ⊎_elim (λ h. ap is_mistake h) (λ v. ap is_mistake v) shown in
-    ⊎_elim (λ lacks. absurd (true≢false (sym (ap is_mistake lacks) ∙ asks)))
-    (λ one. inr (request_alone k (fault_of shamir_app words) asks (one_request_or_mistakes shamir_app words settled_app)
-    (subst (λ (x : App). IsAmong k (fault_of x words)) is one)))
+    ⊎_elim (λ lacks. absurd (true≢false (sym (ap is_mistake lacks) ∙ asks_of k (length words) shown)))
+    (λ one. inr (told (request_alone k (fault_of shamir_app words) (asks_of k (length words) shown)
+    (one_request_or_mistakes shamir_app words settled_app) (subst (λ (x : App). IsAmong k (fault_of x words)) is one))))
     among
+  where
+    told : (fault_of shamir_app words ≡ DisplayHelp ∷ []) ⊎ (fault_of shamir_app words ≡ DisplayVersion ∷ [])
+        → (fault_of shamir_app words ≡ DisplayHelp ∷ []) ⊎ ((fault_of shamir_app words ≡ DisplayVersion ∷ []) × (length words ≡ 2))
+    told (inl help) = inl help
+    told (inr version) = ⊎_elim (λ other. absurd (mixed other)) (λ both. inr (version, both.1)) shown
+      where
+        mixed : k ≡ DisplayHelp → ⊥
+        mixed help = ⊎_elim (λ lacks. cc) (λ one. ⊎_elim (λ same. cc) (λ none. absurd none)
+            (subst (λ (kinds : Kinds). IsAmong k kinds) (ap (λ (x : App). fault_of x words) is ∙ version) one)) among
 answer_by_kind (Refused text) k a words is shown among passes unsaid = (not_taken (takes shamir_app words) refl, no_request)
   where
     not_taken : (b : Bool) → takes shamir_app words ≡ b → takes shamir_app words ≡ false
@@ -358,40 +365,12 @@ answer_by_kind (Refused text) k a words is shown among passes unsaid = (not_take
         (subst (λ (kinds : Kinds). IsAmong k kinds) (ap (λ (x : App). fault_of x words) is ∙ asks) one)) among
 
     no_request : AsksForText words → ⊥
-    no_request (inl said) = unsaid said
+    no_request (inl said) = unsaid (says_help words said)
     no_request (inr (inl help)) = ⊎_elim (λ lacks. shown.2 lacks) (λ same. shown.0 same) (only DisplayHelp help)
-    no_request (inr (inr version)) = ⊎_elim (λ lacks. shown.2 lacks) (λ same. shown.1 same) (only DisplayVersion version)
-
--- the definition doesn't take words that say `help`
-pub help_is_no_command : (words : List Text) → SaysHelp words → takes shamir_app words ≡ true → ⊥
-unfolding shamir_app walk_passes
-help_is_no_command [] said taken = cc
-help_is_no_command (p ∷ []) said taken = cc
-help_is_no_command (p ∷ word ∷ rest) said taken =
-    let same : word ≡ codes "help" = cc in
-    let named : takes shamir_app (p ∷ codes "help" ∷ rest) ≡ true = subst (λ (w : Text). takes shamir_app (p ∷ w ∷ rest) ≡ true) same taken in
-    true≢false (sym (both _ _ (both (is_simple shamir_app) _ named).1).1)
-
--- and a step of their reading fails
-help_is_mistaken : (words : List Text) → SaysHelp words → fault_of shamir_app words ≡ [] → ⊥
-unfolding shamir_app walk_fault
-help_is_mistaken [] said none = cc
-help_is_mistaken (p ∷ []) said none = cc
-help_is_mistaken (p ∷ word ∷ rest) said none =
-    let same : word ≡ codes "help" = cc in
-    let found : fault_of shamir_app (p ∷ codes "help" ∷ rest) ≡ UnknownArgument ∷ InvalidSubcommand ∷ [] = refl in
-    let none_found : fault_of shamir_app (p ∷ codes "help" ∷ rest) ≡ [] = subst (λ (w : Text). fault_of shamir_app (p ∷ w ∷ rest) ≡ []) same none in
-    cc
+    no_request (inr (inr version)) = ⊎_elim (λ lacks. shown.2 lacks) (λ same. shown.1 same version.1) (only DisplayVersion version.0)
 
 -- words in which no step fails ask for no text
 pub asks_none : (words : List Text) → fault_of shamir_app words ≡ [] → AsksForText words → ⊥
-asks_none words none (inl said) = help_is_mistaken words said none
+asks_none words none (inl said) = let faults = help_faults words (says_help words said) in cc
 asks_none words none (inr (inl help)) = cc
-asks_none words none (inr (inr version)) = cc
-
--- the text of help answers words that say `help`
-pub help_answers : (answer : NoJob) (words : List Text) → IsHelp answer → SaysHelp words → AnswersWords answer words
-help_answers (Help text) words is said = inl said
-help_answers Memory words is said = tt
-help_answers (Refused text) words is said = absurd is
-help_answers (Values bad) words is said = absurd is
+asks_none words none (inr (inr (version, two))) = cc

@@ -1,3 +1,4 @@
+pub mod Help
 pub mod Jobs
 pub mod Literals
 pub mod OneCall

@@ -1,5 +1,5 @@
 -- The command line.
-use Rattle.std.specs.Prelude.{◌≡◌, ◌≢◌, ◌⊎◌, ◌++◌, ◌<◌, ◌≤◌, ◌^◌, Bool, true, false, List, Option, [], ◌∷◌, codes, if◌then◌else◌, pos, Some, None, option_map, slice_get}
+use Rattle.std.specs.Prelude.{◌≡◌, ◌≢◌, ◌⊎◌, ◌++◌, ◌<◌, ◌≤◌, ◌^◌, ℕ, Bool, true, false, List, Option, [], ◌∷◌, codes, length, if◌then◌else◌, pos, Some, None, option_map, slice_get}
 use Rattle.std.specs.Borrow.{Bor}
 use Rattle.clap.specs.Words.{App, Row, Rule, Shape, Text, built, fault_of, first_of, new_app, new_rule, one_of}
 use Rattle.clap.specs.Words.{subcommand_of, takes, with_rule, with_subcommand}
@@ -289,16 +289,37 @@ pub record AreSameCalls (call other : Call) : Type 0 where
 abbrev pub SaysHelp : List Text → Type 0
 SaysHelp words = slice_get words 1 ≡ Some (codes "help")
 
--- the words ask for help or for the version: they say `help`, or have an option for it, and nothing before that is wrong with them
+-- The words ask for help by `help`: nothing follows it, or one word does, and this word and `--help` in place of both ask for help.
+abbrev pub AsksByHelp : List Text → Type 0
+AsksByHelp (program ∷ said ∷ []) = said ≡ codes "help"
+AsksByHelp (program ∷ said ∷ name ∷ []) =
+    (said ≡ codes "help") × (fault_of shamir_app (program ∷ name ∷ codes "--help" ∷ []) ≡ DisplayHelp ∷ [])
+AsksByHelp _ = ⊥
+
+-- the words ask for help or for the version: by `help`, or by an option before which nothing is wrong with them; an option for the
+-- version is the only word after the program's name
 abbrev pub AsksForText : List Text → Type 0
-AsksForText words = SaysHelp words ⊎ ((fault_of shamir_app words ≡ DisplayHelp ∷ [])
-    ⊎ (fault_of shamir_app words ≡ DisplayVersion ∷ []))
+AsksForText words = AsksByHelp words ⊎ ((fault_of shamir_app words ≡ DisplayHelp ∷ [])
+    ⊎ ((fault_of shamir_app words ≡ DisplayVersion ∷ []) × (length words ≡ 2)))
 
 -- the answer is a text of help, or that memory ran out
 abbrev pub IsHelp : NoJob → Type 0
 IsHelp (Help text) = Unit {0}
 IsHelp Memory = Unit {0}
 IsHelp _ = ⊥
+
+-- the answer is a refusal of the words, or that memory ran out
+abbrev pub IsRefusal : NoJob → Type 0
+IsRefusal (Refused text) = Unit {0}
+IsRefusal Memory = Unit {0}
+IsRefusal _ = ⊥
+
+-- the answer is help if words with these faults ask for it and for nothing else, and else a refusal, or that memory ran out
+abbrev pub AnswersHelp : NoJob → List ErrorKind → Type 0
+AnswersHelp (Help text) faults = faults ≡ DisplayHelp ∷ []
+AnswersHelp (Refused text) faults = faults ≢ DisplayHelp ∷ []
+AnswersHelp (Values bad) faults = ⊥
+AnswersHelp Memory faults = Unit {0}
 
 -- help and the version go to words that ask for them, and a refusal to words that don't and that the
 -- definition doesn't take; a fault of values goes to words that it takes
@@ -308,11 +329,11 @@ AnswersWords (Refused text) words = (takes shamir_app words ≡ false) × (AsksF
 AnswersWords (Values bad) words = (takes shamir_app words ≡ true) × (AsksForText words → ⊥) × GivesBadValues words bad
 AnswersWords Memory words = Unit {0}
 
--- a text goes with an error that shows help or the version; a refusal goes with none of these, nor with the error that memory
--- ran out
-abbrev pub AnswersKind : NoJob → ErrorKind → Type 0
-AnswersKind (Help text) kind = (kind ≡ DisplayHelp) ⊎ (kind ≡ DisplayVersion)
-AnswersKind (Refused text) kind =
-    (kind ≢ DisplayHelp) × (kind ≢ DisplayVersion) × (kind ≢ OutOfMemory)
-AnswersKind (Values bad) kind = ⊥
-AnswersKind Memory kind = Unit {0}
+-- a text goes with an error that shows help, or that shows the version to two words; a refusal goes with none of these, nor with the
+-- error that memory ran out
+abbrev pub AnswersKind : NoJob → ErrorKind → ℕ → Type 0
+AnswersKind (Help text) kind count = (kind ≡ DisplayHelp) ⊎ ((kind ≡ DisplayVersion) × (count ≡ 2))
+AnswersKind (Refused text) kind count =
+    (kind ≢ DisplayHelp) × (kind ≡ DisplayVersion → count ≢ 2) × (kind ≢ OutOfMemory)
+AnswersKind (Values bad) kind count = ⊥
+AnswersKind Memory kind count = Unit {0}

@@ -1,10 +1,10 @@
 //! The command line: which command its words give, with which values.
-ghost use Rattle.std.specs.Prelude.{◌≡◌, ◌≢◌, ◌⊎◌, [], codes, None, Some, true, map, IfOk, IfErr, IfNone, IfSome, IsFalse, IsTrue, OnOk};
+ghost use Rattle.std.specs.Prelude.{◌≡◌, ◌≢◌, ◌⊎◌, [], ◌∷◌, codes, None, Some, true, map, IfOk, IfErr, IfNone, IfSome, IsFalse, IsTrue, OnOk};
 ghost use Rattle.clap.specs.Words.{fault_of, first_of, found_of, kind_of, one_text, rows_of, takes};
 ghost use Rattle.s39_clap.specs.Found.{EntersOne};
 ghost use Rattle.s39_command.specs.Command.{bad_text, shamir_app, commands};
 ghost use Rattle.s39_command.specs.Command.{Gives, GivesCall, IsInRange, AnswersKind, AnswersWords};
-ghost use Rattle.s39_command.specs.Command.{AreFound, HasBadValues, IsGiven, IsHelp, SaysHelp};
+ghost use Rattle.s39_command.specs.Command.{AnswersHelp, AreFound, HasBadValues, IsGiven, IsHelp, IsRefusal, SaysHelp};
 ghost use Rattle.s39_command.specs.declared.command.BadValues.{BadValues};
 
 use crate::definition::shamir;
@@ -160,12 +160,28 @@ impl From<AllocError> for NoJob {
     }
 }
 
-fn no_job(alloc: Global, error: &Error) -> NoJob
+/// Refuses more words than help or the version takes.
+fn too_many(alloc: Global) -> NoJob
+    ensures { IsRefusal result }
+{
+    let text =
+        "error: --version takes no other argument, and help at most one command\n\nFor more information, try '--help'.\n";
+    match text.to_string(alloc) {
+        Ok(text) => NoJob::Refused(text),
+        Err(_) => NoJob::Memory,
+    }
+}
+
+/// What so many words get that give this error.
+fn no_job(alloc: Global, error: &Error, count: usize) -> NoJob
     ensures memory { kind_of error.now ≡ ErrorKind.OutOfMemory → result ≡ NoJob.Memory }
-    ensures answer { AnswersKind result (kind_of error.now) }
+    ensures answer { AnswersKind result (kind_of error.now) count }
 {
     if error.kind() == ErrorKind::OutOfMemory {
         return NoJob::Memory;
+    }
+    if error.kind() == ErrorKind::DisplayVersion && count != 2 {
+        return too_many(alloc);
     }
     match error.to_string(alloc) {
         Ok(text) if error.use_stderr() => NoJob::Refused(text),
@@ -299,7 +315,7 @@ fn says_help(words: &[&str]) -> bool
 }
 
 /// The text of `--help`.
-fn help(alloc: Global) -> NoJob
+fn help_of_program(alloc: Global) -> NoJob
     ensures { IsHelp result }
 {
     let Ok(mut command) = shamir(alloc) else {
@@ -311,11 +327,39 @@ fn help(alloc: Global) -> NoJob
     }
 }
 
-/// Reads the words of a command line, and returns the command with its values. The first word is the program's name. The word
-/// `help` after it is read as `--help`.
-///
-/// A value that begins with a dash is given as one word, as in `--passphrase=TEXT`. `clap` writes the texts of help and of the
-/// version, and those that refuse words.
+/// The text of `--help` of the command with this name, if there is one.
+fn help_of_command(alloc: Global, program: &str, name: &str) -> NoJob
+    ensures { AnswersHelp result
+        (fault_of shamir_app (program.now ∷ name.now ∷ codes "--help" ∷ [])) }
+{
+    let Ok(command) = shamir(alloc) else {
+        return NoJob::Memory;
+    };
+    let words = [program, name, "--help"];
+    match command.try_get_matches_from(&words) {
+        Ok(_) => too_many(alloc),
+        Err(error) => no_job(alloc, &error, words.len()),
+    }
+}
+
+/// What words get that say `help`: the text of `--help`, of the command that follows if one does.
+fn help(alloc: Global, words: &[&str]) -> NoJob
+    requires { SaysHelp (map (λ word. word.now) words.now) }
+    ensures { AnswersWords result (map (λ word. word.now) words.now) }
+{
+    let count = words.len();
+    if count == 2 {
+        return help_of_program(alloc);
+    }
+    if count != 3 {
+        return too_many(alloc);
+    }
+    help_of_command(alloc, words[0], words[2])
+}
+
+/// Reads the words of a command line, and returns the command with its values. The first word is the program's name. `help` after it
+/// is read as `--help`, and `help NAME` as `NAME --help`. A value that begins with a dash is joined to its option, as in
+/// `--passphrase=TEXT`. `clap` writes the texts of help and of the version, and those that refuse words.
 pub fn read_words<'a>(alloc: Global, words: &'a [&'a str]) -> Result<Call<'a>, NoJob>
     // The command, its values and the files of values are those that the words give, by `clap`'s definition of a simple
     // command.
@@ -333,12 +377,12 @@ pub fn read_words<'a>(alloc: Global, words: &'a [&'a str]) -> Result<Call<'a>, N
     ensures answer { IfErr result (λ error. AnswersWords error (map (λ word. word.now) words.now)) }
 {
     if says_help(words) {
-        return Err(help(alloc));
+        return Err(help(alloc, words));
     }
     let command = shamir(alloc)?;
     let matches = match command.try_get_matches_from(words) {
         Ok(matches) => matches,
-        Err(error) => return Err(no_job(alloc, &error)),
+        Err(error) => return Err(no_job(alloc, &error, words.len())),
     };
     match matches.subcommand() {
         Some((name, options)) => {

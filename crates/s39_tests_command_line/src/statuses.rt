@@ -167,8 +167,8 @@ fn answers_help_and_the_version(rt: HostRuntime) -> Result<(), Fail> {
         (&["shamir", "--help"], HELP),
         (&["shamir", "-h"], HELP),
         (&["shamir", "help"], HELP),
-        (&["shamir", "help", "create"], HELP),
-        (&["shamir", "help", "--limit"], HELP),
+        (&["shamir", "help", "create"], HELP_OF_CREATE),
+        (&["shamir", "help", "--help"], HELP),
         (&["shamir", "recover", "--help"], HELP_OF_RECOVER),
         (&["shamir", "reissue", "--help"], HELP_OF_REISSUE),
         (&["shamir", "repair", "--help"], HELP_OF_REPAIR),
@@ -203,7 +203,16 @@ fn says_why_words_are_refused(rt: HostRuntime) -> Result<(), Fail> {
         "error: --expect <FINGERPRINT> and --fingerprint can't be given together\n\nFor more information, try '--help'.\n";
     let two_passphrases =
         "error: --passphrase <TEXT> and --passphrase-file <FILE> can't be given together\n\nFor more information, try '--help'.\n";
-    let cases: [(&[&str], &str); 13] = [
+    let too_many =
+        "error: --version takes no other argument, and help at most one command\n\nFor more information, try '--help'.\n";
+    let no_command =
+        "error: unrecognized subcommand 'list'\n\nUsage: shamir <COMMAND>\n\nFor more information, try '--help'.\n";
+    let cases: [(&[&str], &str); 18] = [
+        (&["shamir", "-V", "x"], too_many),
+        (&["shamir", "--version", "show"], too_many),
+        (&["shamir", "help", "create", "2of3"], too_many),
+        (&["shamir", "help", "-V"], too_many),
+        (&["shamir", "help", "list"], no_command),
         (
             &["shamir", "drill", "--expect=", "--fingerprint"],
             two_forms,
@@ -255,10 +264,7 @@ fn says_why_words_are_refused(rt: HostRuntime) -> Result<(), Fail> {
             "error: invalid value '16' for '--exponent <E>': 16 is not in 0..=15\n\nFor more information, try '--help'.\n",
         ),
         (&["shamir"], HELP),
-        (
-            &["shamir", "list"],
-            "error: unrecognized subcommand 'list'\n\nUsage: shamir <COMMAND>\n\nFor more information, try '--help'.\n",
-        ),
+        (&["shamir", "list"], no_command),
         (
             &["shamir", "show", "file"],
             "error: unexpected argument 'file' found\n\nUsage: shamir show\n\nFor more information, try '--help'.\n",

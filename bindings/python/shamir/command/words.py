@@ -13,6 +13,7 @@ from shamir.command.devices import INPUT
 from shamir.command.table import COMMANDS, HELP, RANDOM_FILE, VERSION, Command, Option
 
 NUMBER = re.compile(r"([+-]?)0*([0-9]{1,19})")
+TOO_MANY = "--version takes no other argument, and help at most one command"
 TRY_HELP = "\n\nFor more information, try '--help'.\n"
 
 
@@ -65,23 +66,37 @@ def read_words(words: Sequence[str]) -> Call:
         raise NoWords
     first, *rest = words
     if first == "help":
-        raise Told(help_texts.of_program())
-    command = next((command for command in COMMANDS if command.name == first), None)
+        raise helped(rest)
+    command = named(first)
     if command is None:
-        raise refused_at_top(first)
+        raise refused_at_top(first, not rest)
     call = Call(command)
     Reader(call).read(rest)
     check(call)
     return call
 
 
-def refused_at_top(word: str) -> Union[Told, BadWords]:
+def named(word: str) -> Optional[Command]:
+    return next((command for command in COMMANDS if command.name == word), None)
+
+
+def helped(words: Sequence[str]) -> Union[Told, BadWords]:
+    """Return what is said of the words after `help`."""
+    if not words:
+        return Told(help_texts.of_program())
+    if len(words) > 1:
+        return BadWords(TOO_MANY)
+    command = named(words[0])
+    return Told(help_texts.of_command(command)) if command else refused_at_top(words[0], False)
+
+
+def refused_at_top(word: str, is_alone: bool) -> Union[Told, BadWords]:
     """Return what is said of a first word that is no command."""
     asked = long_name(word) or short_name(word)
     if asked == HELP.name:
         return Told(help_texts.of_program())
     if asked == VERSION.name:
-        return Told(help_texts.version())
+        return Told(help_texts.version()) if is_alone else BadWords(TOO_MANY)
     return BadWords("the first word is no command")
 
 

@@ -1,6 +1,9 @@
-use Rattle.std.proofs.Common.{◌∙◌, ap, inl, map, List, sym, ℕ, Bor}
+use Rattle.std.proofs.Common.{◌∙◌, ap, inl, map, List, subst, sym, ℕ, Bor}
+use Rattle.std.proofs.lemmas.List.{length-map}
+use Rattle.s39_command.specs.Command.{AnswersKind}
 use Rattle.clap.specs.Words.{App, app_of, fault_of, found_of, kind_of, rows_of, takes}
-use Rattle.s39_command.proofs.Jobs.{answer_by_kind, asks_none, help_answers, help_is_no_command, known_faults, met_enters, met_is, never_none, no_fault_taken}
+use Rattle.s39_command.proofs.Jobs.{answer_by_kind, asks_none, known_faults, met_enters, met_is, never_none, no_fault_taken}
+use Rattle.s39_command.proofs.Help.{help_is_no_command}
 use Rattle.s39_command.proofs.command.read_words.Goals as goal
 
 pub returns-in-Err-clause-memory : goal.returns-in-Err-clause-memory
@@ -12,7 +15,8 @@ pub returns-in-Err-clause-answer : goal.returns-in-Err-clause-answer
 returns-in-Err-clause-answer c =
     let words = map (λ (word : Bor (List ℕ)). word.now) c.args.words.now in
     let a = app_of c.in_ok-command.command in
-    answer_by_kind c.no_job.result (kind_of c.in-Err.error) a words c.in_ok-command.ensures c.no_job.ensures.answer
+    answer_by_kind c.no_job.result (kind_of c.in-Err.error) a words c.in_ok-command.ensures
+    (subst (AnswersKind c.no_job.result (kind_of c.in-Err.error)) (sym (length-map c.args.words.now (λ (word : Bor (List ℕ)). word.now))) c.no_job.ensures.answer)
     (c.in-Err.ensures.kinds (known_faults a c.in_ok-command.ensures)) c.in-Err.ensures.passes (c.says_help.ensures.unsaid c.if-says_help.false)
 
 pub job_of-requires : goal.job_of-requires
@@ -76,8 +80,3 @@ pub returns-then-says_help-clause-memory : goal.returns-then-says_help-clause-me
 returns-then-says_help-clause-memory c taken =
     let words = map (λ (word : Bor (List ℕ)). word.now) c.args.words.now in
     absurd (help_is_no_command words (c.says_help.ensures.said c.if-says_help.true) taken)
-
-pub returns-then-says_help-clause-answer : goal.returns-then-says_help-clause-answer
-returns-then-says_help-clause-answer c =
-    let words = map (λ (word : Bor (List ℕ)). word.now) c.args.words.now in
-    help_answers c.help.result words c.help.ensures (c.says_help.ensures.said c.if-says_help.true)
