@@ -21,7 +21,6 @@ use Rattle.s39_input.specs.declared.fault.Fault.{Fault}
 use Rattle.s39_drilling.specs.declared.listing.Listing.{Listing}
 use Rattle.s39_input.specs.declared.slices.Unwritten.{Unwritten}
 use Rattle.s39_input.specs.declared.slices.Unwritten.TheVariants.{Refused, TooShort as SliceTooShort}
-use Rattle.s39_kdf.specs.declared.noted.BadFingerprint.{BadFingerprint}
 use Rattle.s39_kdf.specs.declared.secret_form.SecretForm.{SecretForm}
 use Rattle.s39_input.specs.Input.{Input, lines_in, whole}
 use Rattle.s39_input.specs.Create.{IsCreateOutput}
@@ -177,9 +176,6 @@ no_empty_form (name ∷ next ∷ names) is =
       whole,
       length-append (name_text name) (43 ∷ quorum_text (next ∷ names)),
     ))
-
-abbrev form_result : Result SecretForm BadFingerprint → Result SecretForm BadFingerprint
-form_result result = result
 
 -- the answer for what is put into a slice, or isn't
 abbrev answer_of : Result Listing Unwritten → ShamirAnswer
