@@ -7,7 +7,7 @@ use Rattle.s39_field.specs.FieldProduct.{byte_field, byte_modulus, power_modulo,
 use Rattle.s39_field.specs.Polynomial.{power}
 use Rattle.s39_field.specs.Theory.Powers.{byte_degree, byte_field_is_field, byte_generator, field_power, power-add}
 use Rattle.s39_field.specs.Theory.Powers.{power-lt, power-none, power_listed, order, powers_from}
-use Rattle.s39_field.specs.Theory.Residues.{product_modulo-one}
+use Rattle.s39_field.specs.Theory.Residues.{product_modulo-one, product_modulo-zero, product_modulo_commutes}
 use Rattle.s39_field.specs.declared.logarithms.TheConstants.{POWERS, LOGARITHMS}
 
 -- ---- by computation
@@ -82,6 +82,13 @@ product_of_powers i j =
     ap₂ byte_field.mul (field_power byte_modulus 3 i) (field_power byte_modulus 3 j)
     ∙ sym (power-add byte_modulus byte_degree 3 i j)
     ∙ sym (field_power byte_modulus 3 (i + j))
+
+-- a product with zero
+pub product-zero_right : (a b : ℕ) → b ≡ 0 → 0 ≡ byte_field.mul a b
+product-zero_right a b none = sym (ap (byte_field.mul a) none ∙ product_modulo-zero byte_modulus a)
+
+pub product-zero_left : (a b : ℕ) → a ≡ 0 → 0 ≡ byte_field.mul a b
+product-zero_left a b none = product-zero_right b a none ∙ product_modulo_commutes byte_modulus b a
 
 -- what gives 1 with a is the inverse of a
 only_inverse : (a b : ℕ) → byte_field.IsElement a → a ≢ 0 → byte_field.IsElement b → byte_field.mul a b ≡ 1 → b ≡ byte_field.inv a

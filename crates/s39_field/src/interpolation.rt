@@ -7,6 +7,7 @@ ghost use Rattle.s39_field.specs.Interpolation.{Interpolates};
 ghost use Rattle.s39_field.specs.Interpolation.{differences, weights_of, weighted_sum};
 
 use crate::byte::Gf256;
+use crate::logarithms::LogProduct;
 use crate::operations::Field;
 
 /// The product of `x - place` over all places except the one at index `except`.
@@ -16,14 +17,14 @@ fn product_of_differences(x: Gf256, places: &[Gf256], except: usize) -> Gf256
     ensures element { byte_field.IsElement x }
     ensures elements { All byte_field.IsElement places.now }
 {
-    let mut product = Gf256::ONE;
+    let mut product = LogProduct::one();
     for (i, place) in places.iter().enumerate() {
         let difference = x.add(*place);
         if i != except {
-            product = product.mul(difference);
+            product = product.times(u8::from(difference));
         }
     }
-    product
+    Gf256::from(product.value())
 }
 
 /// Computes the Lagrange weights of distinct places at `at` (SLIP-0039, "Shamir's secret sharing"):

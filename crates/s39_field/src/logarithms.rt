@@ -5,6 +5,8 @@ ghost use Rattle.std.specs.Prelude.{◌≡◌, ◌≢◌, ◌+◌, ◌<◌};
 ghost use Rattle.s39_field.specs.FieldProduct.{byte_field};
 ghost use Rattle.s39_field.specs.Polynomial.{power};
 
+use std::marker::Model;
+
 /// The number of nonzero bytes, and so of the powers of 3: `3^255` is 1 again.
 const NONZERO_BYTES: usize = 255;
 
@@ -59,16 +61,25 @@ fn logarithm(a: u8) -> usize
     usize::from(LOGARITHMS[usize::from(a) - 1])
 }
 
+/// An exponent of 3 below 255 that gives the same power.
+fn reduced(i: usize) -> usize
+    requires { i < NONZERO_BYTES + NONZERO_BYTES }
+    ensures below { result < NONZERO_BYTES }
+    ensures same { power byte_field 3 result ≡ power byte_field 3 i }
+{
+    if i < NONZERO_BYTES {
+        i
+    } else {
+        i - NONZERO_BYTES
+    }
+}
+
 /// The power `3^i`, for an `i` below twice 255.
 fn power_of_three(i: usize) -> u8
     requires { i < NONZERO_BYTES + NONZERO_BYTES }
     ensures { result ≡ power byte_field 3 i }
 {
-    if i < NONZERO_BYTES {
-        POWERS[i]
-    } else {
-        POWERS[i - NONZERO_BYTES]
-    }
+    POWERS[reduced(i)]
 }
 
 /// The product of two bytes in the field.
@@ -88,4 +99,55 @@ pub(crate) fn inverse(a: u8) -> u8
     ensures { result ≡ byte_field.inv a }
 {
     power_of_three(NONZERO_BYTES - logarithm(a))
+}
+
+/// A product of bytes to which factors are added: its logarithm, or `None` once a factor is zero. A factor takes one look
+/// at the tables, and not three.
+#[derive(Drop)]
+pub(crate) struct LogProduct {
+    exponent: Option<usize>,
+}
+
+impl Model for LogProduct {
+    ghost use Rattle.std.specs.Prelude.{◌<◌, ℕ};
+    ghost use Rattle.std.specs.Option.{option_map_or, ForSome};
+    ghost use Rattle.s39_field.specs.FieldProduct.{byte_field, nonzero_bytes};
+    ghost use Rattle.s39_field.specs.Polynomial.{power};
+
+    ghost Value = { ℕ };
+
+    ghost view = { λ p. option_map_or (power byte_field 3) p.exponent 0 };
+
+    ghost invariant = { λ p. ForSome p.exponent (λ i. i < nonzero_bytes) };
+}
+
+impl LogProduct {
+    /// The product of no bytes.
+    pub(crate) fn one() -> LogProduct
+        ensures { result ≡ 1 }
+    {
+        LogProduct { exponent: Some(0) }
+    }
+
+    /// The product with one factor more.
+    pub(crate) fn times(self, factor: u8) -> LogProduct
+        ensures { result ≡ byte_field.mul self factor }
+    {
+        match self.exponent {
+            Some(i) if factor != 0 => LogProduct {
+                exponent: Some(reduced(i + logarithm(factor))),
+            },
+            _ => LogProduct { exponent: None },
+        }
+    }
+
+    /// The product as a byte.
+    pub(crate) fn value(self) -> u8
+        ensures { result ≡ self }
+    {
+        match self.exponent {
+            Some(i) => power_of_three(i),
+            None => 0,
+        }
+    }
 }

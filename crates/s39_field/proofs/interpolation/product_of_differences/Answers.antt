@@ -10,7 +10,7 @@ use Rattle.s39_field.proofs.interpolation.product_of_differences.Goals.{then-i-e
 
 pub loop-i-init : goal.loop-i-init
 loop-i-init c = record {
-  product_is = ap (differences byte_field c.args.x) (sym (remove-past [] c.args.except (omega arith)));
+  product_is = c.one-product.ensures ∙ ap (differences byte_field c.args.x) (sym (remove-past [] c.args.except (omega arith)));
   element = λ h. absurd (omega arith);
   elements = λ k d h. absurd (omega arith);
 }
@@ -26,8 +26,8 @@ loop-i-preserved c =
       product_is = elim c.if-i-except.branch [
         | then-i-except w ↦
             w.product-is
-            ∙ w.mul-product.ensures.product
-            ∙ ap₂ (product_modulo byte_modulus) c.loop-i.invariant.product_is (c.add-difference.ensures.sum ∙ ap (bit_xor x) c.index-places-i.is)
+            ∙ w.times-product.ensures
+            ∙ ap₂ (product_modulo byte_modulus) c.loop-i.invariant.product_is (w.from.ensures ∙ c.add-difference.ensures.sum ∙ ap (bit_xor x) c.index-places-i.is)
             ∙ sym (differences-more byte_field byte_field_is_field x places i c.args.except place below w.if-i-except.true)
         | else-i-except w ↦
             w.product-is
@@ -44,7 +44,7 @@ returns c =
     let places = c.args.places.now in
     let all = take_all c.loop-i.i places c.loop-i-test.false in
     record {
-      product = c.loop-i.invariant.product_is ∙ ap (λ l. differences byte_field c.args.x (remove l c.args.except)) all;
+      product = c.from-2.ensures ∙ c.value.ensures ∙ c.loop-i.invariant.product_is ∙ ap (λ l. differences byte_field c.args.x (remove l c.args.except)) all;
       element = c.loop-i.invariant.element (omega arith);
       elements = All-same (λ p. p < 256) places (take c.loop-i.i places) (sym all) c.loop-i.invariant.elements;
     }
