@@ -2,8 +2,9 @@
  * shamir.h: SLIP-0039 backups of a master secret, for C and C++. The manual page shamir(3) is made of these comments.
  *
  * The library creates backups, reads mnemonics, recovers secrets and runs drills. It also reports whether mnemonics are enough
- * for a recovery, counts quorums, computes lost mnemonics and fingerprints of secrets, splits a backup anew by another plan, finds
- * words that can't be read, and lists words of the word list. docs/LIBRARY.md introduces it with examples.
+ * for a recovery, counts quorums, gives and decrypts encrypted secrets, computes lost mnemonics and fingerprints of secrets, splits a
+ * backup anew by another plan, finds words that can't be read, and lists words of the word list. docs/LIBRARY.md introduces it with
+ * examples.
  *
  * A backup consists of mnemonics, which are lines of words. A mnemonic spells a share, which has fields and a value: the bytes
  * that a recovery combines. shamir_parse gives both. Each mnemonic is a member of a group. Groups and members are numbered from
@@ -202,6 +203,13 @@ typedef struct shamir_share {
     uint8_t member_threshold; /* 1 to 16 */
 } shamir_share;
 
+/* What decrypts an encrypted secret beside the passphrase. */
+typedef struct shamir_parameters {
+    uint16_t id;        /* the identifier of the backup, 0 to 32767 */
+    uint8_t extendable; /* the extendable flag, 0 or 1 */
+    uint8_t exponent;   /* the iteration exponent, 0 to 15 */
+} shamir_parameters;
+
 /*
  * Reads one mnemonic.
  *
@@ -307,6 +315,44 @@ SHAMIR_CALL
 shamir_answer shamir_recover(
     const char *lines, size_t lines_bytes, const char *passphrase, size_t passphrase_bytes, uint32_t max_exponent, const char *expected,
     size_t expected_bytes, uint8_t *secret, size_t secret_bytes);
+
+/*
+ * Gives the encrypted secret of a backup, which shamir_decrypt decrypts with a passphrase.
+ *
+ * lines is as for shamir_recover, and the call combines the same quorum. It takes no passphrase and no iterations. So a program that
+ * asks for the passphrase each time can keep the encrypted secret in place of the mnemonics.
+ *
+ * The parameters go to *parameters, and the encrypted secret goes to the start of encrypted. written is its length, which is that of
+ * the secret. Without a passphrase, the encrypted secret with its parameters is as secret as the secret itself.
+ *
+ * The call refuses with the first of these that applies: the code of the first refused line (11 to 28, 71), 29, 30, 51, 1.
+ *
+ *     shamir_parameters parameters;
+ *     uint8_t encrypted[SHAMIR_SECRET_BYTES_MAX];
+ *     shamir_answer answer = shamir_encrypted(lines, lines_bytes, &parameters, encrypted, sizeof encrypted);
+ */
+SHAMIR_CALL SHAMIR_STRUCT(3)
+shamir_answer shamir_encrypted(
+    const char *lines, size_t lines_bytes, shamir_parameters *parameters, uint8_t *encrypted, size_t encrypted_bytes);
+
+/*
+ * Decrypts an encrypted secret with a passphrase.
+ *
+ * *parameters and encrypted are what shamir_encrypted gave. The secret goes to the start of secret. written is its length, which is
+ * encrypted_bytes. expected and the iterations are as for shamir_recover, which gives the same secret from the mnemonics. The call
+ * refuses with 52 or 1 only after the iterations.
+ *
+ * The call refuses with the first of these that applies: 2 (a field of *parameters is out of its range), 44, 41, 42
+ * (encrypted_bytes), 52, 1.
+ *
+ *     uint8_t secret[SHAMIR_SECRET_BYTES_MAX];
+ *     shamir_answer answer = shamir_decrypt(
+ *         &parameters, encrypted, encrypted_bytes, "TREZOR", 6, "df41d8fe", SHAMIR_FINGERPRINT_BYTES_MAX, secret, sizeof secret);
+ */
+SHAMIR_CALL SHAMIR_STRUCT(1)
+shamir_answer shamir_decrypt(
+    const shamir_parameters *parameters, const uint8_t *encrypted, size_t encrypted_bytes, const char *passphrase,
+    size_t passphrase_bytes, const char *expected, size_t expected_bytes, uint8_t *secret, size_t secret_bytes);
 
 /*
  * Runs a drill: the call tries the quorums of mnemonics, and lists what each of them recovers.

@@ -1087,6 +1087,22 @@ static void check_creation(void)
     expect("shamir_fingerprint", wrote(shamir_fingerprint(secret, bytes, text, sizeof text), "df41d8fe"));
 }
 
+/* Another program computed the encrypted secret. */
+static void check_encrypted(void)
+{
+    static const char two[] = FOURTH FIFTH;
+    uint8_t right[SHAMIR_SECRET_BYTES_MAX], value[SHAMIR_SECRET_BYTES_MAX], secret[SHAMIR_SECRET_BYTES_MAX];
+    size_t bytes = bytes_of("ae3283670d8226e104447ff0a4a32f69", right);
+    shamir_parameters parameters;
+    shamir_answer answer = shamir_encrypted(two, strlen(two), &parameters, value, sizeof value);
+
+    expect("shamir_encrypted", answer.code == SHAMIR_DONE && answer.written == bytes && memcmp(value, right, bytes) == 0 &&
+           parameters.id == 1 && parameters.extendable == 0 && parameters.exponent == 0);
+    answer = shamir_decrypt(&parameters, value, bytes, KEY, strlen(KEY), "df41d8fe", 8, secret, sizeof secret);
+    bytes = bytes_of(SECRET, right);
+    expect("shamir_decrypt", answer.code == SHAMIR_DONE && answer.written == bytes && memcmp(secret, right, bytes) == 0);
+}
+
 static void check_reading(void)
 {
     static const char four[] = FIRST SECOND FOURTH, without[] = "academic aluminum acrobat leaf buyer drink heat negative damage union "
@@ -1133,6 +1149,7 @@ int main(void)
         check_vector(&vectors[i]);
     check_creation();
     check_reading();
+    check_encrypted();
     check_telling();
     if (!differences)
         printf("%u vectors and an example of each call: all answers are right\n", (unsigned)(sizeof vectors / sizeof vectors[0]));
