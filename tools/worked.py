@@ -1,7 +1,8 @@
 """Worked examples of each call of the library, with values from outside: published vectors, and what other programs computed.
 
 tools/check_portable/driver.c makes the calls. Each example is also made with an output that is one byte longer, with one that is one byte
-too short, and with NULL in its place. For each answer, shamir_text gives its text, and so does the text's own call with such outputs.
+too short, and with NULL in its place. A refusal comes before that of the room. For each answer, shamir_text gives its text, and so
+does the text's own call with such outputs.
 """
 import importlib
 import re
@@ -195,13 +196,9 @@ RECOVERED: List[Row] = [
     (["ducklin"], None, 0, "0", Answer(44, "bad fingerprint"), ""),
     (FOUR, "a\x07", 0, "00000000", Answer(41, "passphrase byte 2 not printable", first=2), ""),
     ([], None, 0, "00000000", Answer(29, "no shares"), ""),
-]
-
-# The causes that come before the room for a secret.
-RECOVERED_WITHOUT_ROOM: List[Row] = [
-    (FOUR, KEY, 0, "00000000", Answer(52, "other secret")),
-    ([SLOW_UNEVEN_0, SLOW_UNEVEN_1], None, 0, "00000000", Answer(3, "exponent 1 above the maximum", first=1)),
-    ([SLOW_UNEVEN_0, SLOW_UNEVEN_1], None, 1, "00000000", Answer(51, "digest mismatch in group 0")),
+    (FOUR, KEY, 0, "00000000", Answer(52, "other secret"), ""),
+    ([SLOW_UNEVEN_0, SLOW_UNEVEN_1], None, 0, "00000000", Answer(3, "exponent 1 above the maximum", first=1), ""),
+    ([SLOW_UNEVEN_0, SLOW_UNEVEN_1], None, 1, "00000000", Answer(51, "digest mismatch in group 0"), ""),
 ]
 
 
@@ -595,8 +592,6 @@ def examples() -> Iterator[Example]:
         yield example("create", [plan, secret, key, exponent, 0, drawn], answer, lines)
     for lines, key, most, expected, answer, output in RECOVERED:
         yield example("recover", [lines, key, most, expected], answer, output)
-    for lines, key, most, expected, answer in RECOVERED_WITHOUT_ROOM:
-        yield example("recover", [lines, key, most, expected], answer, room=0)
     for lines, answer, output, kept in ENCRYPTED:
         yield example("encrypted", [lines], answer, output, share=(*kept, *NO_SHARE[3:]) if kept else NO_SHARE)
     for kept, value, key, expected, answer, output in DECRYPTED:
@@ -639,6 +634,8 @@ def calls_of(it: Example) -> Iterator[Made]:
         short = wanted(Answer(TOO_SHORT, "", first=room))
         yield driver.line(it.call, it.arguments, room - 1), short
         yield driver.line(it.call, it.arguments, None), short
+    if it.room is None and it.answer.code not in (0, TOO_SHORT):
+        yield driver.line(it.call, it.arguments, None), wanted(it.answer)
     if it.call != "text":
         fields = [it.answer.code, it.mismatches, it.answer.line, it.answer.first, it.answer.second, 0]
         yield from calls_of(example("text", fields, DONE, it.answer.told))
