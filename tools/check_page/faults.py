@@ -181,6 +181,8 @@ FAULTS = [
     ("a plan that was changed without a noted fingerprint is green", "page/change_plan.js", 'isOwn: noted === ""', "isOwn: false", of_page(lambda page: change.check_bare(page, unseen))),
     ("a passphrase that isn't here is taken from before", "page/change_plan.js", 'if (given === null) await desk.ask("passphrase", { passphrase: new Uint8Array() });', "", of_page(lambda page: change.check_bare(page, unseen))),
     ("old papers are to be destroyed before a wallet read the new ones", "page/change_plan.js", ' ${say("change.restore")}', "", of_page(lambda page: change.check_bare(page, unseen))),
+    ("the way on is out of sight of the fields", "page/collect.js", "this.#offerEnd(status.enough);", "", of_page(lambda page: choices.check_phone(page, unseen))),
+    ("a picture stands between a choice and its buttons", "page/which_paper.js", "asked.element];", 'asked.element, picture(status, kind.groupCount, "replace")];', of_page(lambda page: steps.check_which(page, unseen))),
     ("old papers stay among the new ones", "page/desk.js", "[held.papers, [], made]", "[held.papers, [...held.papers], made]", of_page(lambda page: change.check_bare(page, unseen))),
     ("new papers that are half written are cleared at once", "page/change_plan.js", 'unfinished: "clear.changed"', 'unfinished: ""', of_page(lambda page: change.check_extendable(page, unseen))),
     ("an extendable backup is made of its secret", "page/change_plan.js", "kinds[0].extendable ? split", "false ? split", of_page(lambda page: change.check_bare(page, unseen))),
