@@ -149,6 +149,7 @@ FAULTS = [
     ("a name between those that are here isn't offered", "page/which_paper.js", "filter((member) => !here.includes(member))", "filter((member) => member > last)", of_page(lambda page: steps.check_which(page, unseen))),
     ("one paper fewer may be lost", "page/plan_picture.js", "group.members - group.needed + 1", "group.members - group.needed", of_page(lambda page: journey.check_plans(page, unseen))),
     ("a thief needs all groups", "page/plan_picture.js", "group.needed), needed)", "group.needed), groups.length)", of_page(lambda page: journey.check_plans(page, unseen))),
+    ("what a plan doesn't survive stands under what it survives", "page/plan_picture.js", 'heading: "survives.not"', 'heading: "survives"', of_page(lambda page: journey.check_plans(page, unseen))),
     ("cards of other papers", "page/plan_picture.js", "marked.includes(name) ?", "!marked.includes(name) ?", of_page(lambda page: journey.check_plans(page, unseen))),
     ("a missing paper looks as if it was here", "page/picture.js", 'names[at] ?? say("card.missing")', 'names[at] ?? ""', of_page(lambda page: journey.check_plans(page, unseen))),
     ("the columns of a form touch", "page/style.css", "column-gap: 36pt", "column-gap: 2pt", of_page(lambda page: forms.check_blank(page, unseen))),
