@@ -83,6 +83,7 @@ def make(page, see):
     answer_passphrase(page, None, noted)
     page.push(say("drill.start"))
     page.wait_title(say("make.done"))
+    page.wait_text("Note the plan too: any 2 of the 3 papers recover the secret (2of3).")
     see("journey made")
 
 
@@ -113,8 +114,10 @@ def replace(page, see):
     page.wait_text(say("which.another"))
     see("journey which paper")
     page.push(say("replace.end"))
+    page.wait_title(say("replace.passphrase"))
     answer_passphrase(page, PASSPHRASE, FINGERPRINT)
     drill(page, "check.done.good")
+    page.wait_text(say("replace.right.one", names="0.1"))
 
 
 def change(page, see):

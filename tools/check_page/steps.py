@@ -55,7 +55,7 @@ def check_passphrase(page, _):
     if say("back") in page.text().splitlines():
         raise Failed("one press leaves the papers that were read")
     page.push(say("collect.end"))
-    page.wait_title(say("check.drill"))
+    page.wait_title(say("check.passphrase"))
     go_back(page, say("check.title"), "collect.back")
     page.wait_text(say("collect.row", name="0.0", words=20))
     page.push(say("collect.end"))
