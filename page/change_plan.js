@@ -5,7 +5,7 @@ import { askForMore, askWhatNext, collectPapers } from "./collect.js";
 import { element, paragraph } from "./dom.js";
 import { askToDrill, runDrill, saidCount, toldVerdict, warnedTime } from "./drill.js";
 import { askPassphrase } from "./passphrase.js";
-import { planText, saidPlan } from "./plan.js";
+import { notedPlan, planText } from "./plan.js";
 import { askPlan, PlanChoice } from "./plan_choice.js";
 import { saidError, saidRefusal } from "./refusals.js";
 import { say } from "./say.js";
@@ -29,7 +29,7 @@ export async function changePlan(desk) {
   setSteps(6);
   const made = await makeAnew(desk);
   if (made === null) return;
-  await writeAll(desk, made.plan, made.words, { title: say("change.forms"), unfinished: "clear.changed", steps: [3, 4] });
+  await writeAll(desk, made.plan, made.words, { title: say("change.forms"), first: say("change.mark"), unfinished: "clear.changed", steps: [3, 4] });
   await drillAndEnd(desk, made);
 }
 
@@ -180,7 +180,7 @@ async function drillBeside(desk, made, given) {
   if ("refused" in old) return { answer: "again", told: saidRefusal(old.refused) };
   if (old.result === "other" || old.result === "none") return { answer: "again", told: old.sentences.join(" ") };
   if (old.result !== "good") return tellUnlike(old, say("change.old.wrong"));
-  const verdict = await runDrill(desk, status, { title: say("change.work.new"), noted: noted || (old.fingerprint ?? ""), isOwn: noted === "" });
+  const verdict = await runDrill(desk, status, { title: say("change.work.new"), noted: noted || (old.fingerprint ?? ""), isOwn: noted === "", isNew: true });
   if ("refused" in verdict) return { answer: "again", told: saidRefusal(verdict.refused) };
   if (verdict.result === "good") return { answer: await tellDone(verdict, made, given), told: "" };
   // An extendable backup gives another secret only if the engine failed.
@@ -200,14 +200,15 @@ function tellDone(verdict, { plan, kind: { extendable } }, given) {
   const told = [
     toldVerdict(verdict),
     paragraph(say("change.same"), "note"),
-    !given && extendable ? paragraph(say(given === null ? "change.bare.noted" : "noted.first")) : null,
-    paragraph(saidPlan(plan), "sentence"),
+    !given && extendable ? paragraph(say(given === null ? "change.bare.noted" : "change.noted.first")) : null,
+    paragraph(say("change.restore"), "note"),
+    element("h2", {}, say("change.new.title")),
+    paragraph(notedPlan(plan), "sentence"),
     element("h2", {}, say("change.old.title")),
-    paragraph(`${say(extendable ? "change.old" : "change.old.renewed")} ${say("change.restore")}`),
+    paragraph(say(extendable ? "change.old" : "change.old.renewed")),
     !given && !extendable ? paragraph(say("change.unnoted")) : null,
     paragraph(say("change.mixed")),
     paragraph(say("change.thief")),
-    paragraph(say("make.note", { plan: planText(plan) })),
     verdict.table,
     paragraph(say("close")),
   ];

@@ -23,16 +23,16 @@ export async function checkPapers(desk) {
     const sound = say("check.sound", { papers: counted(kinds.length, "paper"), names: kinds.map((it) => it.name).join(", ") });
     return [paragraph(sound, "note"), paragraph(say("check.too_few"))];
   };
-  await collectAndCheck(desk, { title: say("check.title"), intro: say("check.intro"), drill: say("check.drill"), steps: [1, 2, 3] }, saidFew);
+  await collectAndCheck(desk, { title: say("check.title"), intro: say("check.intro"), passphrase: say("check.passphrase"), drill: say("check.drill"), steps: [1, 2, 3] }, saidFew);
 }
 
 /**
  * Lets the owner type papers, and drills, until the owner is content.
  *
  * @param {Desk} desk
- * @param {{title: string, intro: string, drill: string, steps: number[], repaired?: string}} what `drill` is the title of the drill, and
- *   `repaired` is the name of a paper of which words were found and not read. `steps` are those of the papers, of what was noted, and of
- *   the drill
+ * @param {{title: string, intro: string, passphrase: string, drill: string, steps: number[], repaired?: string}} what `passphrase` is the
+ *   title of the form for what was noted, `drill` is that of the drill, and `repaired` is the name of a paper of which words were found and
+ *   not read. `steps` are those of the papers, of what was noted, and of the drill
  * @param {(kinds: Kind[]) => HTMLElement[]} saidFew says what too few papers show
  */
 export async function collectAndCheck(desk, what, saidFew) {
@@ -64,18 +64,19 @@ export async function saidLeftOut(desk) {
  * @param {Desk} desk
  * @param {Status} status
  * @param {Kind} kind
- * @param {{title: string, steps: number[], repaired?: string}} what `steps` are those of what was noted and of the drill, and `repaired` is
- *   the name of a paper of which words were found and not read
+ * @param {{title: string, passphrase: string, steps: number[], repaired?: string, written?: string[]}} what `passphrase` is the title of the
+ *   form for what was noted, and `title` is that of the drill. `steps` are those of both. `repaired` is the name of a paper of which words
+ *   were found and not read, and `written` are the names of papers that were written again from others
  * @returns {Promise<"papers" | "end">}
  */
-export async function drillWithPassphrase(desk, status, kind, { title, steps, repaired = "" }) {
+export async function drillWithPassphrase(desk, status, kind, { title, passphrase, steps, repaired = "", written = [] }) {
   let fault = "";
   /** @type {string | null} */
   let noted = null;
   for (;;) {
     setStep(steps[0]);
     /** @type {string | null} */
-    const given = await askPassphrase(desk, { title, fault, noted });
+    const given = await askPassphrase(desk, { title: passphrase, fault, noted });
     if (given === null) return "papers";
     noted = given;
     setStep(steps[1]);
@@ -88,7 +89,8 @@ export async function drillWithPassphrase(desk, status, kind, { title, steps, re
       fault = saidRefusal(verdict.refused);
       continue;
     }
-    const answer = await tellVerdict(verdict, noted, { ...saidTried(verdict, status), left: await saidLeftOut(desk), repaired: saidRepaired(verdict, noted, repaired) });
+    const anew = [...saidRepaired(verdict, noted, repaired), ...saidWritten(verdict, noted, written)];
+    const answer = await tellVerdict(verdict, noted, { ...saidTried(verdict, status), left: await saidLeftOut(desk), anew });
     if (answer !== "again") return answer;
     fault = "";
   }
@@ -99,10 +101,10 @@ export async function drillWithPassphrase(desk, status, kind, { title, steps, re
  *
  * @param {Verdict} verdict
  * @param {string} noted
- * @param {{tried: HTMLElement | null, untried: HTMLElement | null, left: HTMLElement | null, repaired: HTMLElement[]}} papers what is said
- *   of the papers that were tried, of those that no quorum has, of those that were left out, and of a repaired one
+ * @param {{tried: HTMLElement | null, untried: HTMLElement | null, left: HTMLElement | null, anew: HTMLElement[]}} papers what is said
+ *   of the papers that were tried, of those that no quorum has, of those that were left out, and of those that were written anew
  */
-function tellVerdict(verdict, noted, { tried, untried, left, repaired }) {
+function tellVerdict(verdict, noted, { tried, untried, left, anew }) {
   const { result, fingerprint, hasPassphrase, table } = verdict;
   const isGood = result === "good";
   // Without a noted fingerprint, no result is known to be good.
@@ -113,7 +115,7 @@ function tellVerdict(verdict, noted, { tried, untried, left, repaired }) {
     tried,
     untried,
     left,
-    ...repaired,
+    ...anew,
     isGood ? null : paragraph(again + say(`check.${result}`)),
     ...(isGood && !isNoted && fingerprint ? [paragraph(say("noted.first")), element("p", { class: "fingerprint" }, fingerprint)] : []),
     table,
@@ -156,4 +158,18 @@ function saidRepaired({ result, names, right }, noted, name) {
   const isSuspect = isTried && ["none", "some"].includes(result) && !right.includes(name);
   const suspect = isSuspect ? [paragraph(say("damaged.suspect.one", { names: name }), "bad")] : [];
   return [...suspect, paragraph(say("damaged.keep"), "note")];
+}
+
+/**
+ * Says what a drill shows of papers that were written again. Only the noted fingerprint shows that they work.
+ *
+ * @param {Verdict} verdict
+ * @param {string} noted
+ * @param {string[]} written the names of these papers
+ */
+function saidWritten({ result, names }, noted, written) {
+  const tried = written.filter((name) => names.includes(name));
+  if (result !== "good" || tried.length === 0) return [];
+  const [key, kind] = noted !== "" ? ["replace.right", "good"] : ["replace.tried", "note"];
+  return [paragraph(say(`${key}.${tried.length === 1 ? "one" : "many"}`, { names: tried.join(", ") }), kind)];
 }

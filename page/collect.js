@@ -75,6 +75,8 @@ class Collection {
   // What is asked if words were typed and not read.
   #question = element("div", { class: "buttons" });
   #back = button(say("back"), () => leaveEntry(this.#entry, () => this.#onEnd(null)));
+  #ended = button(say("collect.end"), () => this.#end(), "primary");
+  #buttons = element("div", { class: "buttons" }, this.#ended, this.#back);
   #entry;
 
   /**
@@ -99,8 +101,7 @@ class Collection {
   show(title, intro) {
     // A paper is read by itself after its last word.
     this.#entry.isLeading = false;
-    const ended = button(say("collect.end"), () => this.#end(), "primary");
-    show(title, paragraph(intro), this.#undo, this.#entry.element, this.#found, this.#fault, this.#question, element("div", { class: "buttons" }, ended, this.#back));
+    show(title, paragraph(intro), this.#undo, this.#entry.element, this.#found, this.#fault, this.#question, this.#buttons);
     this.#draw();
     this.#entry.focus();
   }
@@ -115,9 +116,11 @@ class Collection {
       if (isNew) this.#kinds.push(kind);
       this.#status = status;
       this.#draw();
+      this.#offerEnd(status.enough);
       const told = say(isNew ? "collect.taken" : "collect.repeated", { name: kind.name });
       return { isTaken: true, text: `${told} ${saidWhole(status, kind.groupCount, this.#task)}` };
     } catch (error) {
+      this.#offerEnd(false);
       const repaired = this.#kinds.filter(({ name }) => name === this.#repaired).map(({ name }) => name);
       return { isTaken: false, text: saidForeign(error, repaired), words: wordsToLookAt(error) };
     }
@@ -142,8 +145,19 @@ class Collection {
     this.#entry.focus();
   }
 
+  /**
+   * Puts the button that goes on below an answer that says that the papers are enough, and below all else otherwise.
+   *
+   * @param {boolean} isBelowAnswer
+   */
+  #offerEnd(isBelowAnswer) {
+    if (isBelowAnswer) this.#entry.below.append(this.#ended);
+    else this.#buttons.prepend(this.#ended);
+  }
+
   #draw() {
     this.#say("");
+    this.#offerEnd(false);
     this.#undo.replaceChildren();
     this.#back.classList.toggle("hide", this.#kinds.length > 0);
     const rows = this.#kinds.map(({ name, words }) =>

@@ -20,7 +20,7 @@ import { announce, ask, show } from "./screen.js";
  * @typedef {{result: "good" | "stopped" | "other" | "none" | "some" | "several", fingerprint: string | null, sentences: string[], names: string[], right: string[], hasPassphrase: boolean, isEqual: boolean, table: HTMLElement | null}} Verdict
  */
 
-/** @typedef {{noted: string, isOwn: boolean, hasPassphrase: boolean}} Asked the fingerprint that is expected, and what else a verdict depends on */
+/** @typedef {{noted: string, isOwn: boolean, isNew: boolean, hasPassphrase: boolean}} Asked the fingerprint that is expected, and what else a verdict depends on */
 
 /** From this exponent on, the page says how long a derivation takes. */
 export const LONG_EXPONENT = 5;
@@ -69,12 +69,12 @@ export async function askToDrill(desk, counts, kind, { title, hasBack }) {
  *
  * @param {Desk} desk
  * @param {Status} status
- * @param {{title: string, noted: string, isOwn?: boolean, isOld?: boolean}} what `noted` is the expected fingerprint, or empty. `isOwn`
- *   says that it is that of the secret that was just backed up, and that the owner noted none. `isOld` says that the papers are those
- *   whose plan changes
+ * @param {{title: string, noted: string, isOwn?: boolean, isOld?: boolean, isNew?: boolean}} what `noted` is the expected fingerprint, or
+ *   empty. `isOwn` says that it is that of the secret that was just backed up, and that the owner noted none. `isOld` says that the papers
+ *   are those whose plan changes, and `isNew` that they take the place of such papers
  * @returns {Promise<Verdict | {refused: import("./desk.js").Refused}>}
  */
-export async function runDrill(desk, status, { title, noted, isOwn = false, isOld = false }) {
+export async function runDrill(desk, status, { title, noted, isOwn = false, isOld = false, isNew = false }) {
   const total = status.quorums;
   const isWhole = total <= TRIED_WHOLE;
   const hasPassphrase = await desk.ask("hasPassphrase");
@@ -89,7 +89,7 @@ export async function runDrill(desk, status, { title, noted, isOwn = false, isOl
     if (!(error instanceof Stopped)) throw error;
     isStopped = true;
   }
-  return table.end(isStopped, isOwn, hasPassphrase);
+  return table.end(isStopped, { noted, isOwn, isNew, hasPassphrase });
 }
 
 /**
@@ -199,21 +199,19 @@ class Table {
    * Returns the verdict.
    *
    * @param {boolean} isStopped
-   * @param {boolean} isOwn
-   * @param {boolean} hasPassphrase
+   * @param {Asked} asked
    * @returns {Verdict}
    */
-  end(isStopped, isOwn, hasPassphrase) {
-    const noted = this.#noted;
-    const { result, right, sentences } = verdictOf(this.tried, this.#total, { noted, isOwn, hasPassphrase });
+  end(isStopped, asked) {
+    const { result, right, sentences } = verdictOf(this.tried, this.#total, asked);
     if (this.tried.length === 0) sentences.length = 0;
     const isWhole = !isStopped && BigInt(this.tried.length) === this.#total;
     if (!isWhole) sentences.unshift(say("drill.part", { tried: said(this.tried.length), total: said(this.#total) }));
     const fingerprint = fingerprints(this.tried)[0]?.[0] ?? null;
     // Green says that something was compared with what the owner noted, and is equal.
-    const isEqual = result === "good" && !isStopped && noted !== "" && !isOwn;
+    const isEqual = result === "good" && !isStopped && asked.noted !== "" && !asked.isOwn;
     const table = this.tried.length ? this.#shown(isStopped || result !== "good") : null;
-    return { result: isStopped ? "stopped" : result, fingerprint, sentences, names: namesOf(this.tried), right, hasPassphrase, isEqual, table };
+    return { result: isStopped ? "stopped" : result, fingerprint, sentences, names: namesOf(this.tried), right, hasPassphrase: asked.hasPassphrase, isEqual, table };
   }
 
   /**
@@ -254,7 +252,7 @@ function namesOf(tried) {
  * @returns {Pick<Verdict, "result" | "right" | "sentences">}
  */
 function verdictOf(tried, total, asked) {
-  const { noted, isOwn } = asked;
+  const { noted, isOwn, isNew } = asked;
   const found = fingerprints(tried);
   const fingerprint = noted !== "" ? noted : found[0]?.[0] ?? "";
   const right = tried.filter((it) => isRight(it, fingerprint));
@@ -263,7 +261,7 @@ function verdictOf(tried, total, asked) {
   if (tried.length > 0 && wrong.length === 0) {
     const whole = BigInt(tried.length) === total ? "all" : "tried";
     const which = noted === "" ? "same" : isOwn ? "own" : "noted";
-    return { result: "good", right: namesOf(right), sentences: [say(`verdict.${whole}.${which}`, { quorums, fingerprint })] };
+    return { result: "good", right: namesOf(right), sentences: [say(`verdict.${whole}.${which}${isNew ? ".new" : ""}`, { quorums, fingerprint })] };
   }
   const verdict = right.length ? wrongVerdict(right, wrong, found.length, noted, quorums) : noneVerdict(wrong, asked, quorums);
   return { ...verdict, right: namesOf(right) };

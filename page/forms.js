@@ -81,14 +81,16 @@ export function named(name, label) {
  * @param {Plan} plan
  * @param {number} count
  * @param {string} title
+ * @param {string} first what is said before all else, or an empty text
  * @returns {Promise<Label>}
  */
-export async function offerForms(plan, count, title) {
+export async function offerForms(plan, count, title, first) {
   const names = planNames(plan);
   const fields = new Map(names.map((name) => [name, labelled(say("forms.label", { name }), "text", { attributes: { maxlength: "40" } })]));
   const typed = (/** @type {string} */ name) => fields.get(name)?.field.value.trim() ?? "";
   const labels = element("details", {}, element("summary", {}, say("forms.labels")), paragraph(say("forms.labels.hint"), "hint"), ...[...fields.values()].map(({ box }) => box));
   const children = [
+    first ? paragraph(first, "note") : null,
     paragraph(say("forms.what", { papers: counted(names.length, "paper") })),
     labels,
     paragraph(say("forms.print")),

@@ -6,7 +6,7 @@ import { choice, element, hidden, labelled, paragraph } from "./dom.js";
 import { LONG_EXPONENT, toldVerdict } from "./drill.js";
 import { noteAndDrill } from "./note_and_drill.js";
 import { notedFields, passphraseFields } from "./passphrase.js";
-import { planNames, planText, saidPlan } from "./plan.js";
+import { notedPlan, planNames, planText } from "./plan.js";
 import { askPlan, PlanChoice } from "./plan_choice.js";
 import { saidError } from "./refusals.js";
 import { say, saidTime } from "./say.js";
@@ -274,11 +274,10 @@ async function noteAndEnd(desk, plan, isOwn) {
   const old = isOwn ? paragraph(say("make.own")) : null;
   const done = [
     toldVerdict(verdict),
-    paragraph(saidPlan(plan), "sentence"),
+    paragraph(notedPlan(plan), "sentence"),
     paragraph(say("make.restore"), "note"),
     paragraph(keep),
     old,
-    paragraph(say("make.note", { plan: planText(plan) })),
     verdict.table,
     paragraph(say("close")),
   ];

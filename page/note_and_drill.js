@@ -41,9 +41,9 @@ export async function noteAndDrill(desk, made) {
  */
 async function letNote({ fingerprint, isOwn, hasPassphrase }) {
   setStep(6);
-  const apart = hasPassphrase ? paragraph(say("noted.apart")) : null;
+  const where = paragraph(say(hasPassphrase ? "noted.apart" : "noted.papers"));
   const shown = element("p", { class: "fingerprint" }, fingerprint);
-  const noting = [paragraph(say("noted.new")), shown, paragraph(say(isOwn ? "noted.own" : "noted.drawn")), apart, paragraph(say("proof.next"), "hint")];
+  const noting = [paragraph(say("noted.new")), shown, paragraph(say(isOwn ? "noted.own" : "noted.drawn")), where, paragraph(say("proof.next"), "hint")];
   const skip = isOwn ? [{ key: "skip", label: say("noted.skip") }] : [];
   const answer = await ask(say(isOwn ? "noted.title.own" : "noted.title"), noting, [{ key: "go", label: say("noted.done"), kind: "primary" }, ...skip]);
   return answer === "skip" ? "" : null;

@@ -28,6 +28,8 @@ export class PaperEntry {
   #grid = element("div", { class: "words" });
   #reading = button(say("entry.read"), () => this.#read(), "primary read");
   #answer = element("p", { class: "answer" });
+  // What stands directly below the answer.
+  below = element("div", { class: "buttons" });
   #count = labelled(say("entry.count"), "number", {
     attributes: { min: "1", max: String(COUNT_MAX), class: "count", change: () => this.#counted() },
   });
@@ -57,6 +59,7 @@ export class PaperEntry {
       element("p", { class: "hint" }, say(onChange ? "damaged.hint" : "entry.hint")),
       element("div", { class: "counts" }, this.#count.box, ...quick),
       this.#answer,
+      this.below,
       this.#grid,
       element("div", { class: "buttons" }, this.#reading, button(say("entry.empty"), () => this.#emptied()), this.#restoring),
     );

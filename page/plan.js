@@ -57,6 +57,16 @@ export function saidPlan(plan) {
   return `${head} ${groups}.`;
 }
 
+/**
+ * Says what to note of a plan: what recovers the secret, and the plan's text.
+ *
+ * @param {Plan} plan
+ */
+export function notedPlan(plan) {
+  const said = saidPlan(plan);
+  return say("make.note", { said: said[0].toLowerCase() + said.slice(1, -1), plan: planText(plan) });
+}
+
 /** @param {unknown[]} names */
 function form(names) {
   return names.length === 1 ? "one" : "many";

@@ -1,4 +1,4 @@
-// What a plan survives: a card for each paper, and in four rows which losses and which thefts leave enough papers, and which may not.
+// What a plan survives and what it doesn't: which losses and which thefts, each with a card for each paper.
 import { element } from "./dom.js";
 import { planNames } from "./plan.js";
 import { say } from "./say.js";
@@ -55,27 +55,32 @@ function cards(plan, marked, kind) {
 }
 
 /**
- * Returns the rows: what is said of so many papers, and which of them are an example.
+ * Returns the rows under each heading: what is said of so many papers, and which of them are an example. In a plan of one group, what is
+ * true of these is true of any others.
  *
  * @param {Plan} plan
  */
 function rows(plan) {
+  const risk = plan.groups.length === 1 ? "risk.only" : "risk";
   const said = (/** @type {string} */ key, /** @type {string[]} */ names) => ({ text: say(`${key}.${names.length === 1 ? "one" : "many"}`, { n: names.length }), names });
   const [loss, theft] = [worstLoss(plan), worstTheft(plan)];
+  const safe = [{ kind: "lost", ...said("lost.safe", loss.slice(1)) }, { kind: "stolen", ...said("stolen.safe", theft.slice(1)) }];
+  const not = [{ kind: "lost", ...said(`lost.${risk}`, loss) }, { kind: "stolen", ...said(`stolen.${risk}`, theft) }];
   return [
-    { kind: "lost", ...said("lost.safe", loss.slice(1)) },
-    { kind: "lost", ...said("lost.risk", loss) },
-    { kind: "stolen", ...said("stolen.safe", theft.slice(1)) },
-    { kind: "stolen", ...said("stolen.risk", theft) },
-  ].filter(({ names }) => names.length > 0);
+    { heading: "survives", lines: safe.filter(({ names }) => names.length > 0) },
+    { heading: "survives.not", lines: not },
+  ].filter(({ lines }) => lines.length > 0);
 }
 
 /**
- * Draws what a plan survives.
+ * Draws what a plan survives, and what it doesn't.
  *
  * @param {Plan} plan
  */
 export function planPicture(plan) {
-  const drawn = rows(plan).map(({ kind, text, names }) => element("li", {}, element("span", {}, text), cards(plan, names, kind)));
-  return element("div", { class: "survives" }, element("h2", {}, say("survives")), element("ul", {}, ...drawn));
+  const drawn = rows(plan).flatMap(({ heading, lines }) => [
+    element("h2", {}, say(heading)),
+    element("ul", {}, ...lines.map(({ kind, text, names }) => element("li", {}, element("span", {}, text), cards(plan, names, kind)))),
+  ]);
+  return element("div", { class: "survives" }, ...drawn);
 }

@@ -27,7 +27,7 @@ export async function readDamaged(desk) {
   setStep(2);
   const { index, kind } = fit;
   await writeAndTypeBack(desk, { index, name: kind.name, takes: saidTakesAlone(kind) }, kind.words);
-  const what = { title: say("damaged.check.title"), intro: say("damaged.check.intro"), drill: say("damaged.drill"), steps: [3, 4, 4], repaired: kind.name };
+  const what = { title: say("damaged.check.title"), intro: say("damaged.check.intro"), passphrase: say("damaged.passphrase"), drill: say("damaged.drill"), steps: [3, 4, 4], repaired: kind.name };
   await collectAndCheck(desk, what, () => [paragraph(say("damaged.too_few"), "note")]);
 }
 

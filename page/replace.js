@@ -54,7 +54,8 @@ function tellNew() {
  * @returns {Promise<"end" | "back">}
  */
 async function replaceDestroyed(desk) {
-  let isWritten = false;
+  /** @type {string[]} */
+  const written = [];
   for (;;) {
     setStep(2);
     const collected = await collectPapers(desk, { title: say("replace.title"), intro: say("replace.intro"), task: "replace" });
@@ -65,9 +66,8 @@ async function replaceDestroyed(desk) {
       if ((await tellFew(desk, status, kinds, key)) === "end") return "end";
       continue;
     }
-    const next = await writeMissing(desk, kinds[0], isWritten);
-    isWritten ||= (await desk.ask("kinds")).length > kinds.length;
-    if (next === "drill" && (await drillRest(desk, kinds[0], isWritten)) === "end") return "end";
+    const next = await writeMissing(desk, kinds[0], written);
+    if (next === "drill" && (await drillRest(desk, kinds[0], written)) === "end") return "end";
   }
 }
 
@@ -76,22 +76,22 @@ async function replaceDestroyed(desk) {
  *
  * @param {Desk} desk
  * @param {Kind} kind
- * @param {boolean} isWritten whether a paper was written before
+ * @param {string[]} written the names of the papers that were written again, to which these are added
  * @returns {Promise<"papers" | "drill">}
  */
-async function writeMissing(desk, kind, isWritten) {
+async function writeMissing(desk, kind, written) {
   let fault = "";
   for (;;) {
-    setStep(isWritten ? 4 : 3);
+    setStep(written.length ? 4 : 3);
     /** @type {Wanted | "papers" | "drill"} */
-    const wanted = await askWhich(await desk.ask("status"), kind, fault, isWritten);
+    const wanted = await askWhich(await desk.ask("status"), kind, fault, written.length > 0);
     if (typeof wanted === "string") return wanted;
     const found = await computed(desk, wanted);
     fault = found.fault;
     if (fault !== "") continue;
     setStep(4);
     await writeAndTypeBack(desk, { index: found.index, name: wanted.name, takes: takesOf(wanted) }, kind.words);
-    isWritten = true;
+    if (!written.includes(wanted.name)) written.push(wanted.name);
   }
 }
 
@@ -168,11 +168,12 @@ async function askWhy() {
  *
  * @param {Desk} desk
  * @param {Kind} kind
- * @param {boolean} isWritten whether papers were written again
+ * @param {string[]} written the names of the papers that were written again
  */
-async function drillRest(desk, kind, isWritten) {
+async function drillRest(desk, kind, written) {
   setStep(5);
   const [status, kinds] = [await desk.ask("status"), await desk.ask("kinds")];
-  if (status.enough) return drillWithPassphrase(desk, status, kind, { title: say("replace.drill"), steps: [5, 5] });
-  return tellFew(desk, status, kinds, "replace.too_few", isWritten);
+  const what = { title: say("replace.drill"), passphrase: say("replace.passphrase"), steps: [5, 5], written };
+  if (status.enough) return drillWithPassphrase(desk, status, kind, what);
+  return tellFew(desk, status, kinds, "replace.too_few", written.length > 0);
 }

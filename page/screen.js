@@ -111,15 +111,16 @@ export function show(title, ...children) {
 
 /**
  * Shows a screen with buttons, and waits until one of them is pressed. The `take` of a button takes what was typed. If it returns a
- * text, which says what is missing, the screen stays.
+ * text, which says what is missing, the screen stays. `after` stands below the buttons.
  *
  * @template {string} K
  * @param {string} title
  * @param {Child[]} children
  * @param {{key: K, label: string, kind?: string, take?: () => string | null | Promise<string | null>}[]} answers
+ * @param {Child[]} [after]
  * @returns {Promise<K>}
  */
-export function ask(title, children, answers) {
+export function ask(title, children, answers, after = []) {
   return new Promise((resolve) => {
     const fault = element("p", { class: "fault", role: "alert" });
     let isAnswered = false;
@@ -138,7 +139,7 @@ export function ask(title, children, answers) {
         kind,
       ),
     );
-    show(title, ...children, fault, element("div", { class: "buttons" }, ...buttons));
+    show(title, ...children, fault, element("div", { class: "buttons" }, ...buttons), ...after);
     goOnByEnter(buttons.find((it) => it.classList.contains("primary")));
   });
 }

@@ -113,12 +113,13 @@ export async function writeAndTypeBack(desk, paper, words) {
  * @param {Desk} desk
  * @param {Plan} plan
  * @param {number} words how many words each paper has
- * @param {{title: string, unfinished: Unfinished, steps: number[]}} what `title` is that of the screen before the first paper, `unfinished`
- *   is said before clearing meanwhile, and `steps` are those of writing and of typing back
+ * @param {{title: string, first?: string, unfinished: Unfinished, steps: number[]}} what `title` is that of the screen before the first
+ *   paper, which says `first` before all else. `unfinished` is said before clearing meanwhile, and `steps` are those of writing and of
+ *   typing back
  */
-export async function writeAll(desk, plan, words, { title, unfinished, steps: [writing, back] }) {
+export async function writeAll(desk, plan, words, { title, first = "", unfinished, steps: [writing, back] }) {
   setStep(writing);
-  const labelOf = await offerForms(plan, words, title);
+  const labelOf = await offerForms(plan, words, title, first);
   const names = planNames(plan);
   const papers = names.map((name, index) => ({ index, name, shown: named(name, labelOf(name)), takes: saidTakes(plan, name) }));
   const place = (/** @type {number} */ index) => say("paper.place", { number: index + 1, count: names.length });

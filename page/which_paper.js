@@ -131,10 +131,11 @@ class Choice {
 export async function askWhich(status, kind, fault, isWritten) {
   const asked = new Choice(status, kind, isWritten);
   const isDone = isWritten || asked.hasNone;
-  const children = [fault ? paragraph(fault, "bad") : null, asked.hasNone ? null : paragraph(say("which.intro")), asked.element, picture(status, kind.groupCount, "replace")];
+  const children = [fault ? paragraph(fault, "bad") : null, asked.hasNone ? null : paragraph(say("which.intro")), asked.element];
   const write = { key: /** @type {const} */ ("write"), label: say("which.write"), kind: isDone ? "" : "primary", take: () => asked.missing() };
   const drill = { key: /** @type {const} */ ("drill"), label: say("replace.end"), kind: isDone ? "primary" : "" };
   const answers = asked.hasNone ? [drill] : isDone ? [drill, write] : [write, drill];
-  const answer = await ask(say("replace.which"), children, [...answers, { key: /** @type {const} */ ("papers"), label: say("collect.back") }]);
+  const ways = [...answers, { key: /** @type {const} */ ("papers"), label: say("collect.back") }];
+  const answer = await ask(say("replace.which"), children, ways, [picture(status, kind.groupCount, "replace")]);
   return answer === "write" ? asked.read() : answer;
 }

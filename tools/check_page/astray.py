@@ -170,7 +170,7 @@ def check_untried(page, see):
         repair(page, line)
         take(page, others)
         page.push(say("collect.end"))
-        page.wait_title(say("damaged.drill"))
+        page.wait_title(say("damaged.passphrase"))
         answer_passphrase(page, None, fingerprint)
         page.push(say("drill.start"))
         page.wait_title(say(title))

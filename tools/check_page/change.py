@@ -64,6 +64,7 @@ def type_again(page, label, text=""):
 def write(page, see, old, is_checked=False):
     """Writes the new papers down, and types them back. An old paper isn't taken for a new one. Returns the new ones."""
     page.wait_title(say("change.forms"))
+    page.wait_text(say("change.mark"))
     pictures(page, see, "pen and paper")
     page.push(say("forms.go"))
     new = []
@@ -120,6 +121,8 @@ def check_done(page, see, what, texts, green):
     page.wait_title(say("change.done"))
     for text in (*texts, say("change.same"), say("change.restore"), say("change.mixed"), say("change.thief")):
         page.wait_text(text)
+    if page.text().index(say("change.restore")) > page.text().index(say("change.old.title")):
+        raise Failed("what is to be destroyed is told before what is to be done first")
     check_green(page, green)
     pictures(page, see, what)
 
@@ -155,8 +158,9 @@ def check_extendable(page, see):
     type_again(page, "noted.label", FINGERPRINT)
     page.push(say("continue"))
     page.push(say("drill.start"))
-    verdict = say("verdict.all.noted", quorums=counted(10, "quorum"), fingerprint=FINGERPRINT)
-    check_done(page, see, "done", [verdict, say("change.old"), say("plan.sentence.any", needed=3, members=5)], [verdict])
+    verdict = say("verdict.all.noted.new", quorums=counted(10, "quorum"), fingerprint=FINGERPRINT)
+    note = say("make.note", said="any 3 of the 5 papers recover the secret", plan="3of5")
+    check_done(page, see, "done", [verdict, say("change.old"), note], [verdict])
     finish(page)
 
 
@@ -177,8 +181,8 @@ def check_bare(page, see):
         else:
             answer_passphrase(page, passphrase, None)
         page.push(say("drill.start"))
-        verdict = say("verdict.all.own", quorums=counted(3, "quorum"), fingerprint=fingerprint_of(old[3:], passphrase or ""))
-        check_done(page, see, f"done without notes {passphrase}", [verdict, say("noted.first" if passphrase else "change.bare.noted"), say("change.old")], [])
+        verdict = say("verdict.all.own.new", quorums=counted(3, "quorum"), fingerprint=fingerprint_of(old[3:], passphrase or ""))
+        check_done(page, see, f"done without notes {passphrase}", [verdict, say("change.noted.first" if passphrase else "change.bare.noted"), say("change.old")], [])
         finish(page)
 
 
@@ -222,7 +226,7 @@ def check_renewed(page, see):
         else:
             answer_passphrase(page, PASSPHRASE, noted)
         page.push(say("drill.start"))
-        verdict = say(f"verdict.all.{'noted' if noted else 'own'}", quorums=counted(3, "quorum"), fingerprint=FINGERPRINT)
+        verdict = say(f"verdict.all.{'noted' if noted else 'own'}.new", quorums=counted(3, "quorum"), fingerprint=FINGERPRINT)
         texts = [verdict, say("change.old.renewed"), *([] if noted else [say("change.unnoted")])]
         check_done(page, see, f"done, not extendable, {wallet}", texts, [verdict] if noted else [])
         finish(page)

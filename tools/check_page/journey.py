@@ -83,6 +83,7 @@ def make(page, see):
     answer_passphrase(page, None, noted)
     page.push(say("drill.start"))
     page.wait_title(say("make.done"))
+    page.wait_text("Note the plan too: any 2 of the 3 papers recover the secret (2of3).")
     see("journey made")
 
 
@@ -113,8 +114,10 @@ def replace(page, see):
     page.wait_text(say("which.another"))
     see("journey which paper")
     page.push(say("replace.end"))
+    page.wait_title(say("replace.passphrase"))
     answer_passphrase(page, PASSPHRASE, FINGERPRINT)
     drill(page, "check.done.good")
+    page.wait_text(say("replace.right.one", names="0.1"))
 
 
 def change(page, see):
@@ -173,17 +176,17 @@ def survived(plan):
 
 def check_picture(page, what, plan):
     lost, stolen = survived(plan)
-    wanted = []
-    for kind, count in [("lost.safe", lost), ("lost.risk", lost + 1), ("stolen.safe", stolen), ("stolen.risk", stolen + 1)]:
-        wanted += [say(f"{kind}.{'one' if count == 1 else 'many'}", n=count)] if count else []
-    found = json.loads(page.evaluate("JSON.stringify([...document.querySelectorAll('.survives li > span')].map((it) => it.textContent))"))
+    risk = "risk.only" if len(plan[1]) == 1 else "risk"
+    lines = [("survives", "lost.safe", lost), ("survives", "stolen.safe", stolen), ("survives.not", f"lost.{risk}", lost + 1), ("survives.not", f"stolen.{risk}", stolen + 1)]
+    wanted = [[say(heading), say(f"{kind}.{'one' if count == 1 else 'many'}", n=count)] for heading, kind, count in lines if count]
+    found = json.loads(page.evaluate("JSON.stringify([...document.querySelectorAll('.survives li > span')].map((it) => [it.closest('ul').previousElementSibling.textContent, it.textContent]))"))
     if found != wanted:
         raise Failed(f"the plan {what} survives {wanted}, and the page says {found}")
     drawn = json.loads(page.evaluate("JSON.stringify([...document.querySelectorAll('.survives .cards')].map((row) => [...row.querySelectorAll('.card')].map((it) => [it.textContent, it.classList.contains('lost') || it.classList.contains('stolen')])))"))
-    for text, row in zip(found, drawn, strict=True):
+    for (heading, text), row in zip(found, drawn, strict=True):
         marked = {tuple(map(int, name.split("."))) for name, is_marked in row if is_marked}
         left = {tuple(map(int, name.split("."))) for name, is_marked in row if not is_marked}
-        is_loss, is_safe = "lost" in text, "may" not in text
+        is_loss, is_safe = "lost" in text, heading == say("survives")
         if enough(plan, left if is_loss else marked) != (is_safe if is_loss else not is_safe):
             raise Failed(f"the plan {what}: the cards {row} don't show that {text!r}")
 

@@ -71,7 +71,7 @@ def check(name, url, see, opened=Page):
             page.wait_text(say("collect.unread"))
             check_screen(page, f"{mode} words that were not read", see)
             page.push(say("collect.unread.drop"))
-            page.wait_title(say("check.drill"))
+            page.wait_title(say("check.passphrase"))
             check_screen(page, f"{mode} passphrase", see)
             page.push(say("clear"))
             page.wait_title(say("home.title"))

@@ -316,7 +316,7 @@ def check_recovery(page, see):
                 page.push(say("collect.back"))
                 page.wait_title(say("check.title"))
                 page.push(say("collect.end"))
-                page.wait_title(say("check.drill"))
+                page.wait_title(say("check.passphrase"))
                 page.push(say("clear"))
                 page.wait_title(say("home.title"))
                 continue

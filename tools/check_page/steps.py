@@ -55,7 +55,7 @@ def check_passphrase(page, _):
     if say("back") in page.text().splitlines():
         raise Failed("one press leaves the papers that were read")
     page.push(say("collect.end"))
-    page.wait_title(say("check.drill"))
+    page.wait_title(say("check.passphrase"))
     go_back(page, say("check.title"), "collect.back")
     page.wait_text(say("collect.row", name="0.0", words=20))
     page.push(say("collect.end"))
@@ -89,6 +89,8 @@ def check_which(page, see):
         page.wait_text(say("collect.taken", name=f"{share['group']}.{share['member']}"))
     page.push(say("collect.end"))
     page.wait_title(say("replace.which"))
+    if page.evaluate("Boolean(document.querySelector('#main .picture').compareDocumentPosition(document.querySelector('#main .buttons')) & 4)"):
+        raise Failed("the buttons don't stand below the choices, but below the picture of the papers")
     offered = page.evaluate("[...document.querySelectorAll('[role=radio] strong')].map((it) => it.textContent).join(', ')")
     names = {f"{it['group']}.{it['member']}" for it in (plain.parse(line.encode()) for line in (THREE_GROUPS[0], THREE_GROUPS[2], THREE_GROUPS[3]))}
     if names != {"0.0", "0.2", "1.0"} or offered != ", ".join([*(say("which.paper", name=name) for name in ("0.1", "0.3", "2.0")), say("which.other")]):

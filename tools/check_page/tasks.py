@@ -116,6 +116,7 @@ def make(page, plan_label, wallet, words, passphrase, see, digits=None):
             break
         papers.append(read_paper(page))
         if len(papers) == 1:
+            page.wait_text("Never photograph a paper.")
             see("paper")
         shown = page.title()
         page.push(say("paper.written"))
@@ -137,8 +138,8 @@ def make(page, plan_label, wallet, words, passphrase, see, digits=None):
     page.wait_title(say("noted.title" if digits is None else "noted.title.own"))
     page.wait_text(say("back.same", name=typed))
     see("fingerprint")
-    if (say("noted.apart") in page.text()) != (passphrase is not None):
-        raise Failed("the page tells of a passphrase that there isn't, or doesn't tell of the one that there is")
+    if [say(key) in page.text() for key in ("noted.apart", "noted.papers")] != [passphrase is not None, passphrase is None]:
+        raise Failed("the page doesn't say whether the fingerprint may stand on the papers, or says it though there is a passphrase")
     fingerprint = page.evaluate("document.querySelector('.fingerprint').textContent")
     page.push(say("noted.done"))
     prove(page, passphrase, fingerprint, digits is None, see)
@@ -147,7 +148,7 @@ def make(page, plan_label, wallet, words, passphrase, see, digits=None):
     page.wait_text(say("make.with" if passphrase else "make.without"))
     if (say("make.own") in page.text()) != (digits is not None):
         raise Failed("the page doesn't say what becomes of digits on paper, or says it of a secret that it drew")
-    page.wait_text(say("make.note", plan="@").split("@")[0])
+    page.wait_text(say("make.note", said="@", plan="").split("@")[0])
     see("backup is made")
     end(page)
     return papers, fingerprint
@@ -250,7 +251,7 @@ def check_papers(page, see):
     page.wait_text(say("check.other"))
     see("end of a check with a wrong passphrase")
     page.push(say("again"))
-    page.wait_title(say("check.drill"))
+    page.wait_title(say("check.passphrase"))
     if not page.is_true(f"(it) => it.value === '{FINGERPRINT}'", page.node("textbox", say("noted.label"))):
         raise Failed("another try empties the noted fingerprint")
     page.push(say("clear"))
@@ -310,7 +311,8 @@ def check_replace(page, see):
     page.push(say("drill.start"))
     page.wait_text(say("verdict.all.same", quorums=counted(3, "quorum"), fingerprint=FINGERPRINT))
     page.wait_title(say("check.done.same"))
-    page.wait_text(say("noted.first"))
+    for text in (say("noted.first"), say("replace.tried.one", names="0.1")):
+        page.wait_text(text)
     if say("check.done.good") in page.text() or say("again") not in page.text():
         raise Failed("without a noted fingerprint, a result is said to be good")
     see("end of a check without a noted fingerprint")

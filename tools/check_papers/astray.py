@@ -191,7 +191,7 @@ def check_letter():
         owner.prove(owner.noted(), "b")
         owner.wait(say("screen.end"))
         owner.expect("This backup has a passphrase: keep it in another place.")
-        owner.expect(say("make.note", plan="1of1"))
+        owner.expect(say("make.note", said="this one paper recovers the secret", plan="1of1"))
         if b"TREZOR" in owner.raw:
             raise Failed("a passphrase shows that was typed in place of an answer")
         owner.answer(say("screen.end"), "e")

@@ -150,6 +150,7 @@ def make(owner, passphrase, names, secret=None, known=""):
         owner.type_paper(say("back.ask", name=name), line)
     noted = say("noted.done.own" if secret else "noted.done")
     owner.wait(noted)
+    owner.expect(say("noted.apart" if passphrase else "noted.papers"))
     found = owner.noted()
     if found != fingerprint_of(papers, passphrase):
         raise Failed(f"the fingerprint {found} isn't that of the papers")
@@ -221,6 +222,7 @@ def check_replace(papers, noted):
         owner.passphrase(PASSPHRASE, noted)
         owner.wait(say("next.good"))
         owner.expect(say("verdict.all.noted", quorums="4 quorums", fingerprint=noted))
+        owner.expect(f"[ok] {say('replace.right.one', names='0.1')}")
         owner.reply(say("next.good"), "e")
         owner.end(0)
         owner.within(12)
@@ -239,6 +241,7 @@ def change(owner, plan, wallet=""):
     if wallet:
         owner.reply(say("new.wallet"), wallet)
     papers, names = owner.written(), names_of(plan)
+    owner.expect(say("change.mark"))
     if [name_of(line) for line in papers] != names:
         raise Failed(f"the papers {names} were expected, and {[name_of(line) for line in papers]} are shown")
     owner.reply(say("screen.next"), "")
@@ -258,7 +261,7 @@ def check_change(papers, noted):
         owner.passphrase(PASSPHRASE, noted)
         owner.wait(say("screen.end"))
         owner.expect(say("change.done"))
-        owner.expect(f"[ok] {say('verdict.all.noted', quorums='3 quorums', fingerprint=noted)} {say('change.same')}")
+        owner.expect(f"[ok] {say('verdict.all.noted.new', quorums='3 quorums', fingerprint=noted)} {say('change.same')}")
         owner.expect(say("change.old"))
         owner.expect(say("change.mixed"))
         owner.reply(say("screen.end"), "e")

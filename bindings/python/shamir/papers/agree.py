@@ -43,7 +43,7 @@ def _drilled(screen: Screen, old: Desk, new: Desk, noted: str) -> Verdict:
         return first
     new.set_passphrase(bytearray(old.passphrase))
     screen.tell(say("change.new.title"), "strong")
-    second = run_drill(screen, new, first.fingerprint, is_own=not noted)
+    second = run_drill(screen, new, first.fingerprint, is_own=not noted, is_new=True)
     if second.result == "good":
         second.sentences = [" ".join([*second.sentences, say("change.same")])] if noted else [say("change.agree")]
     elif second.result == "other":

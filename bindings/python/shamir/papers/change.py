@@ -10,7 +10,7 @@ from shamir.papers.collect import ask_for_more, collect
 from shamir.papers.desk import Desk, Paper
 from shamir.papers.drill import Verdict
 from shamir.papers.line import wipe
-from shamir.papers.plan import Plan, said_plan
+from shamir.papers.plan import Plan, noted_plan
 from shamir.papers.plan_choice import ask_plan
 from shamir.papers.questions import ask_passphrase
 from shamir.papers.quorums import Tried, gives
@@ -48,6 +48,7 @@ def _change(screen: Screen, desk: Desk) -> str:
     plan, papers = made
     desk.written = "changing"
     screen.hold(say("end.changing"))
+    screen.tell_next(say("change.mark"), "strong")
     new = Desk()
     try:
         write_all(screen, new, plan, papers)
@@ -136,10 +137,11 @@ def _tell_done(screen: Screen, desk: Desk, plan: Plan, verdict: Verdict) -> None
     screen.clear(say("change.done"))
     for sentence in verdict.sentences:
         screen.tell(sentence, "" if verdict.is_own else "good")
-    screen.tell(f"{said_plan(plan)} {say('make.note', plan=plan.text)}")
+    screen.tell(say("change.restore"), "strong")
+    screen.tell(noted_plan(plan))
     # Without the noted fingerprint, nothing shows that a passphrase or a found word was right.
     if verdict.is_own and (is_repaired or not is_extendable):
         screen.tell(say("change.repaired" if is_repaired else "change.unnoted"), "strong")
-    screen.tell(f"{say('change.old' if is_extendable else 'change.old.renewed')} {say('change.restore')}")
+    screen.tell(say("change.old" if is_extendable else "change.old.renewed"))
     screen.tell(f"{say('change.mixed')} {say('change.thief')}")
     screen.choose(say("screen.end"), {"e": None})

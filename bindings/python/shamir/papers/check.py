@@ -65,6 +65,7 @@ def _tell(screen: Screen, desk: Desk, verdict: Verdict, noted: str) -> str:
     elif result != "good":
         screen.tell(say("noted.first" if result == "same" else f"check.{result}"))
     _tell_repaired(screen, desk, verdict, result)
+    _tell_written(screen, desk, verdict, result)
     if result not in FAULTY:
         tell_damaged(screen, desk)
     if _is_proved(desk, verdict, result):
@@ -83,6 +84,15 @@ def _tell_repaired(screen: Screen, desk: Desk, verdict: Verdict, result: str) ->
     _tell_names(screen, "damaged.right", [paper for paper in right if paper.is_rewritten], "good")
     if not _is_proved(desk, verdict, result) and (repaired or desk.written == "repaired"):
         screen.tell(say("damaged.keep"), "strong")
+
+
+def _tell_written(screen: Screen, desk: Desk, verdict: Verdict, result: str) -> None:
+    """Says what a drill shows of papers that were written again from others. Only the noted fingerprint shows that they work."""
+    written = [paper for paper in desk.papers if paper.is_rewritten and not paper.is_repaired and paper.name in verdict.names]
+    if result == "good":
+        _tell_names(screen, "replace.right", written, "good")
+    elif result == "same":
+        _tell_names(screen, "replace.tried", written, "")
 
 
 def _is_proved(desk: Desk, verdict: Verdict, result: str) -> bool:

@@ -62,10 +62,11 @@ def warned_time(screen: Screen, paper: Paper) -> Callable[[], str]:
     return remaining(seconds)
 
 
-def run_drill(screen: Screen, desk: Desk, noted: str, is_own: bool = False) -> Verdict:
+def run_drill(screen: Screen, desk: Desk, noted: str, is_own: bool = False, is_new: bool = False) -> Verdict:
     """Runs a drill, with progress, and returns what it found. The library's refusal of the passphrase is raised.
 
-    `noted` is the expected fingerprint, or empty. `is_own` says that it is that of the secret that was just backed up.
+    `noted` is the expected fingerprint, or empty. `is_own` says that it is that of the secret that was just backed up. `is_new` says that
+    the papers take the place of others.
     """
     total, tried = desk.quorums(), list[Tried]()
     is_whole = total <= TRIED_WHOLE
@@ -77,7 +78,7 @@ def run_drill(screen: Screen, desk: Desk, noted: str, is_own: bool = False) -> V
         _try(screen, desk, total, tried, noted)
     except Stopped:
         is_stopped = True
-    return verdict_of(list(tried), total, noted, is_own, is_stopped, bool(desk.passphrase))
+    return verdict_of(list(tried), total, noted, is_own, is_stopped, bool(desk.passphrase), is_new)
 
 
 def said_total(total: int) -> str:
@@ -105,10 +106,13 @@ def _try(screen: Screen, desk: Desk, total: int, tried: List[Tried], noted: str)
             tried.append(screen.work(functools.partial(desk.try_one, names, noted), progress, is_stoppable=True))
 
 
-def verdict_of(tried: Sequence[Tried], total: int, noted: str, is_own: bool, is_stopped: bool, has_passphrase: bool = True) -> Verdict:
+def verdict_of(
+    tried: Sequence[Tried], total: int, noted: str, is_own: bool, is_stopped: bool, has_passphrase: bool = True, is_new: bool = False
+) -> Verdict:
     """Returns what the outcomes of a drill say together."""
     found = fingerprints(tried)
-    result, sentences = _verdict(tried, total, noted, is_own, found) if tried else ("none", list[str]())
+    which = ("same" if not noted else "own" if is_own else "noted") + (".new" if is_new else "")
+    result, sentences = _verdict(tried, total, noted, which, found) if tried else ("none", list[str]())
     if result == "other" and not has_passphrase:
         sentences = [say("verdict.other.none", quorums=counted(len(tried), "quorum"), noted=noted)]
     if is_stopped or len(tried) != total:
@@ -128,14 +132,14 @@ def _names(tried: Iterable[Tried]) -> Tuple[str, ...]:
     return tuple({name: None for it in tried for name in it.names})
 
 
-def _verdict(tried: Sequence[Tried], total: int, noted: str, is_own: bool, found: List[Tuple[str, int]]) -> Tuple[str, List[str]]:
+def _verdict(tried: Sequence[Tried], total: int, noted: str, which: str, found: List[Tuple[str, int]]) -> Tuple[str, List[str]]:
+    """Returns what a drill found, and says it. `which` names the sentence that says that all quorums are right."""
     wanted = _wanted(noted, found)
     right = [it for it in tried if gives(it, wanted)]
     wrong = [it for it in tried if not gives(it, wanted)]
     quorums = counted(len(tried), "quorum")
     if not wrong:
         whole = "all" if len(tried) == total else "tried"
-        which = "same" if not noted else "own" if is_own else "noted"
         return "good", [say(f"verdict.{whole}.{which}", quorums=quorums, fingerprint=wanted)]
     return _wrong(right, wrong, found, noted, quorums)
 

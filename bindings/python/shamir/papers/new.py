@@ -6,7 +6,7 @@ from typing import List, Optional, Tuple
 from shamir.papers.desk import Desk, Paper
 from shamir.papers.drill import Verdict
 from shamir.papers.line import wipe
-from shamir.papers.plan import Plan, said_plan, said_singles, said_survives
+from shamir.papers.plan import Plan, noted_plan, said_plan, said_singles, said_survives
 from shamir.papers.plan_choice import ask_plan
 from shamir.papers.proof import Made, note_and_drill
 from shamir.papers.questions import ask_new_passphrase
@@ -77,11 +77,10 @@ def _tell_done(screen: Screen, plan: Plan, choices: Choices, verdict: Verdict) -
     screen.clear(say("make.done"))
     for sentence in verdict.sentences:
         screen.tell(sentence, "" if verdict.is_own else "good")
-    screen.tell(said_plan(plan))
+    screen.tell(noted_plan(plan))
     screen.tell(say("make.restore"))
     keep = say("make.keep" if len(plan.names) > 1 else "make.keep.one")
     screen.tell(f"{keep} {say('make.with' if choices.has_passphrase else 'make.without')}")
     if choices.is_own:
         screen.tell(say("make.own"))
-    screen.tell(say("make.note", plan=plan.text))
     screen.choose(say("screen.end"), {"e": None})

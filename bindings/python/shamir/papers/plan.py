@@ -49,6 +49,12 @@ def said_plan(plan: Plan) -> str:
     return " ".join([_head(plan), *_groups(plan)])
 
 
+def noted_plan(plan: Plan) -> str:
+    """Says what to note of a plan: what recovers the secret, and the plan's text."""
+    said = said_plan(plan)
+    return say("make.note", said=said[0].lower() + said[1:-1], plan=plan.text)
+
+
 def _head(plan: Plan) -> str:
     if len(plan.groups) == 1:
         [(needed, members)] = plan.groups

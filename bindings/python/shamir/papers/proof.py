@@ -46,8 +46,7 @@ def _show(screen: Screen, made: Made) -> None:
     screen.tell(f"{title}: {made.fingerprint}", "strong")
     screen.tell(say("noted.new"))
     screen.tell(say("noted.own" if made.is_own else "noted.drawn"))
-    if made.has_passphrase:
-        screen.tell(say("noted.apart"))
+    screen.tell(say("noted.apart" if made.has_passphrase else "noted.papers"))
     screen.tell(say("proof.next"))
     screen.pause(say("noted.done.own" if made.is_own else "noted.done"))
     screen.clear(say("proof.title"))

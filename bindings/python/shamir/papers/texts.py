@@ -108,7 +108,7 @@ OWN: Dict[str, str] = {
     "new.write": "Enter: I have written it. The words are cleared then.",
     "new.write.plain": "Enter: I have written it. The words stay in this terminal until you close it.",
     "new.write.alone": "Nothing is typed here: press Enter alone when you have written the paper. You type it back later.",
-    "paper.how": "Write 'SLIP-0039', the name of the paper and the words with their numbers, in block letters.",
+    "paper.how": "Write 'SLIP-0039', the name of the paper and the words with their numbers, in block letters. Never photograph a paper.",
     "back.ask": "Paper {name} (Enter alone: show it again):",
     "noted.ask": "The fingerprint that you noted (it shows; Enter alone: none; b: back):",
     "noted.wrong": "This isn't a fingerprint. A fingerprint has exactly eight characters, each of which is a digit or a letter from a to f. Compare it with your note. If you have noted none, press Enter alone.",
