@@ -320,10 +320,10 @@ shamir_answer shamir_recover(
  * Gives the encrypted secret of a backup, which shamir_decrypt decrypts with a passphrase.
  *
  * lines is as for shamir_recover, and the call combines the same quorum. It takes no passphrase and no iterations. So a program that
- * asks for the passphrase each time can keep the encrypted secret in place of the mnemonics.
+ * asks for the passphrase each time can keep the encrypted secret, with its parameters, in place of the mnemonics.
  *
  * The parameters go to *parameters, and the encrypted secret goes to the start of encrypted. written is its length, which is that of
- * the secret. Without a passphrase, the encrypted secret with its parameters is as secret as the secret itself.
+ * the secret. If the backup has no passphrase, the encrypted secret with its parameters is as secret as the secret itself.
  *
  * The call refuses with the first of these that applies: the code of the first refused line (11 to 28, 71), 29, 30, 51, 1.
  *
@@ -339,8 +339,8 @@ shamir_answer shamir_encrypted(
  * Decrypts an encrypted secret with a passphrase.
  *
  * *parameters and encrypted are what shamir_encrypted gave. The secret goes to the start of secret. written is its length, which is
- * encrypted_bytes. expected and the iterations are as for shamir_recover, which gives the same secret from the mnemonics. The call
- * refuses with 52 or 1 only after the iterations.
+ * encrypted_bytes. expected and the iterations are as for shamir_recover, which gives the same secret from the mnemonics. No argument
+ * limits the exponent: if you want a limit, look at that field first. The call refuses with 52 or 1 only after the iterations.
  *
  * The call refuses with the first of these that applies: 2 (a field of *parameters is out of its range), 44, 41, 42
  * (encrypted_bytes), 52, 1.
