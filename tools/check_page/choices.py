@@ -342,7 +342,7 @@ def check_phone(page, see):
             raise Failed(f"the fields run {page.evaluate(COLUMNS % '.word')}")
         see(f"phone {'sound' if line == SOUND_PAPER else 'wrong'} paper")
         if line == SOUND_PAPER:
-            if not page.evaluate(IN_SIGHT % "document.querySelector('.answer + .buttons .primary')"):
+            if not page.evaluate(IN_SIGHT % "document.querySelector('#main button.primary')"):
                 raise Failed("the button that goes on with papers that are enough is out of sight")
             page.go_to("button", say("collect.drop", name="0.0"))
             page.evaluate("document.querySelector('.entry .read').focus({ preventScroll: true }); null")
