@@ -631,7 +631,7 @@ def calls_of(it: Example) -> Iterator[Made]:
     yield driver.line(it.call, it.arguments, room or None), wanted(it.answer, it.output, it.mismatches, it.share)
     if it.room is None and it.output:
         yield driver.line(it.call, it.arguments, room + 1), wanted(it.answer, it.output, it.mismatches, it.share)
-        short = wanted(Answer(TOO_SHORT, "", first=room))
+        short = wanted(Answer(TOO_SHORT, "", first=room), share=it.share)
         yield driver.line(it.call, it.arguments, room - 1), short
         yield driver.line(it.call, it.arguments, None), short
     if it.room is None and it.answer.code not in (0, TOO_SHORT):
@@ -642,11 +642,14 @@ def calls_of(it: Example) -> Iterator[Made]:
 
 
 def flags() -> Iterator[Made]:
-    """Yields new backups. Their flag is set by any number except 0."""
-    for flag in [0, 1, 2, 255, 256, 65536, 2**32 - 1]:
-        [share] = plain.create(plain.parse_plan("1of1"), SECRET, KEY.encode(), 0, flag != 0, ONE_RANDOM)
+    """Yields new backups with and without the flag. A greater number is refused before anything else."""
+    for flag in [0, 1]:
+        [share] = plain.create(plain.parse_plan("1of1"), SECRET, KEY.encode(), 0, flag == 1, ONE_RANDOM)
         output = (plain.mnemonic(share) + "\n").encode()
         yield driver.line("create", ["1of1", SECRET, KEY, 0, flag, ONE_RANDOM], ROOM), wanted(done(1, 0), output)
+    for flag in [2, 15, 255, 256, 257, 65536, 65537, 2**32 - 1]:
+        for given in (["1of1", SECRET, KEY, 0, flag, ONE_RANDOM], [None, None, "a\x07", 15, flag, None]):
+            yield driver.line("create", given, ROOM), wanted(Answer(2, "number out of range"))
 
 
 def wiped() -> Iterator[Made]:

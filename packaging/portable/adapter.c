@@ -161,6 +161,12 @@ static shamir_answer finish(call *c, void *output)
         return answered; \
     } while (0)
 
+/* Whether a call filled its output struct: it did, unless it refused what it reads. */
+static int has_struct(const module *m)
+{
+    return i32_load(m, ANSWER) <= SHAMIR_E_TOO_SHORT;
+}
+
 static void copy_share(const module *m, u32 at, shamir_share *share)
 {
     share->id = (uint16_t)i32_load16_u(m, at);
@@ -183,7 +189,7 @@ shamir_answer shamir_parse(const char *line, size_t line_bytes, shamir_share *sh
     if (!begin(&c))
         return no_memory();
     module_parse(&c.m, ANSWER, from, line_bytes, fields, c.room, room_bytes);
-    if (i32_load(&c.m, ANSWER) == SHAMIR_DONE)
+    if (has_struct(&c.m))
         copy_share(&c.m, fields, share);
     RETURN_ANSWER(&c, value);
 }
@@ -244,7 +250,7 @@ shamir_answer shamir_encrypted(
     if (!begin(&c))
         return no_memory();
     module_encrypted(&c.m, ANSWER, from, lines_bytes, fields, c.room, room_bytes);
-    if (i32_load(&c.m, ANSWER) == SHAMIR_DONE) {
+    if (has_struct(&c.m)) {
         parameters->id = (uint16_t)i32_load16_u(&c.m, fields);
         parameters->extendable = c.m.data[fields + 2];
         parameters->exponent = c.m.data[fields + 3];

@@ -150,6 +150,10 @@ class WorkedExamples(unittest.TestCase):
         self.refused(13, None, (0, 0), shamir.parse, ONE.replace("keyboard", "kidney"))
         self.refused(11, None, (2, 0), shamir.parse, "academic academia")
         self.refused(12, None, (0, 0), shamir.parse, "")
+        for line, code, fields in [(ONE, 1, (7945, 0, 0, 0, 1, 1, 0, 1)), (ONE[1:], 11, (7,) * 8)]:
+            share = shamir._Share(*(7,) * 8)
+            self.assertEqual(shamir._library.shamir_parse(line.encode(), len(line), share, None, 0).code, code)
+            self.assertEqual(tuple(getattr(share, name) for name, _ in shamir._Share._fields_), fields)
         with self.assertRaisesRegex(shamir.Refusal, "^line 2: 11 unknown word 1$"):
             shamir.recover("\nx")
 
@@ -193,11 +197,11 @@ class WorkedExamples(unittest.TestCase):
         self.refused(13, 1, (0, 0), shamir.encrypted, ONE.replace("keyboard", "kidney"))
         self.refused(71, 1, (0, 0), shamir.encrypted, "#" * 1025)
         self.assertEqual(repr(kept), "EncryptedSecret(id=1, extendable=False, exponent=0)")
-        text, parameters = "\n".join(FIVE).encode(), shamir._Parameters(7, 7, 7)
-        for lines, room in [(text, 15), (b"x", 128), (b"", 128)]:
-            value = ctypes.create_string_buffer(room)
+        text, unchanged = "\n".join(FIVE).encode(), b"\7\0\7\7"
+        for lines, room, code, fields in [(text, 15, 1, b"\1\0\0\0"), (text, 0, 1, b"\1\0\0\0"), (b"x", 128, 11, unchanged), (b"", 128, 29, unchanged)]:
+            value, parameters = ctypes.create_string_buffer(room), shamir._Parameters(7, 7, 7)
             answer = shamir._library.shamir_encrypted(lines, len(lines), parameters, value, room)
-            self.assertEqual((answer.code != 0, bytes(parameters), value.raw), (True, b"\7\0\7\7", bytes(room)))
+            self.assertEqual((answer.code, bytes(parameters), value.raw), (code, fields, bytes(room)))
 
     def test_decrypt(self):
         for lines, kept, secret in ENCRYPTED:

@@ -1,13 +1,18 @@
--- What calls give step by step: one thing; what follows from it; and that a slice is too short for it.
-use Rattle.std.proofs.Common.{◌≡◌, ℕ, List, [], sym, ap, ◌∙◌, subst, inl, inr, arith, Result, Ok, Err}
-use Rattle.s39_input.proofs.Steps.{AtMostOne}
+-- What calls give step by step is one thing, and there is one.
+use Rattle.std.proofs.Common.{◌≡◌, ℕ, List, [], ◌++◌, length, drop, refl, sym, ap, ◌∙◌, subst, inl, inr, arith, Result, Ok, Err}
+use Rattle.std.proofs.lemmas.Bool.{cases_lt}
+use Rattle.s39_input.proofs.Steps.{AtMostOne, AtLeastOne}
 use Rattle.s39_input.specs.declared.fault.Fault.{Fault}
 use Rattle.s39_c.specs.declared.answer.ShamirAnswer.{ShamirAnswer}
-use Rattle.s39_c.specs.Answers.{GivesAs, GivesOutputAs, Step, Writes, refused}
+use Rattle.s39_c.specs.Answers.{GivesAs, GivesOutputAs, Step, Writes, filled, refused, too_short}
 
 -- a slice and an answer are one
 abbrev pub Once : (List ℕ → ShamirAnswer → Type 0) → Type 0
-Once Given = (new other : List ℕ) (answer another : ShamirAnswer) → Given new answer → Given other another → (new ≡ other) × (answer ≡ another)
+Once Gives = (new other : List ℕ) (answer another : ShamirAnswer) → Gives new answer → Gives other another → (new ≡ other) × (answer ≡ another)
+
+-- there are such a slice and answer
+abbrev pub Given : (List ℕ → ShamirAnswer → Type 0) → Type 0
+Given Gives = (new : List ℕ) × (answer : ShamirAnswer) × Gives new answer
 
 -- the same text is given in one way
 pub gives_as_once : (success : ShamirAnswer) (text old : List ℕ) → Once (GivesAs success text old)
@@ -15,6 +20,12 @@ gives_as_once success text old new other answer another (inl (fits, is, says)) (
 gives_as_once success text old new other answer another (inl (fits, is, says)) (inr (long, same, too)) = absurd (omega (arith, fits, long))
 gives_as_once success text old new other answer another (inr (long, is, says)) (inl (fits, same, too)) = absurd (omega (arith, fits, long))
 gives_as_once success text old new other answer another (inr (long, is, says)) (inr (also, same, too)) = (is ∙ sym same, says ∙ sym too)
+
+pub gives_as_some : (success : ShamirAnswer) (text old : List ℕ) → Given (GivesAs success text old)
+gives_as_some success text old = elim (cases_lt (length old) (length text)) [
+  | inl short ↦ (old, too_short (length text), inr (short, refl, refl))
+  | inr fits ↦ (text ++ drop (length text) old, success, inl (fits, refl, refl))
+]
 
 -- ---- a step
 
@@ -27,6 +38,39 @@ module _ {A E : Type 0} (First : Result A E → Type 0) (refusal : E → ShamirA
   step_once first next new other answer another (inr (a, p, given)) (inr (b, q, also)) =
       let same = first (Ok a) (Ok b) p q in let here : b ≡ a = cc in
       next a p new other answer another given (subst (λ c. Next c other another) here also)
+
+  pub step_some : AtLeastOne First → ((a : A) → First (Ok a) → Given (Next a)) → Given (Step First refusal Next old)
+  step_some (Ok a, p) next = let (new, answer, given) = next a p in (new, answer, inr (a, p, given))
+  step_some (Err e, p) next = (old, refusal e, inl (e, p, refl, refl))
+
+  -- ---- a step with a struct
+
+  module _ {T : Type 0} (this : A → T) (before : T) where
+    -- what the step gives, with this struct
+    abbrev Fills : T → Result A E → Type 0
+    Fills after result = First result × (after ≡ filled this before result)
+
+    -- the struct is one too
+    pub filled_once : AtMostOne First → ((a : A) → First (Ok a) → Once (Next a)) → (after also : T) (new other : List ℕ) (answer another : ShamirAnswer)
+        → Step (Fills after) refusal Next old new answer → Step (Fills also) refusal Next old other another
+        → (after ≡ also) × (new ≡ other) × (answer ≡ another)
+    filled_once first next after also new other answer another (inl (e, (p, fills), same, says)) (inl (d, (q, fills'), same', says')) =
+        let both = step_once first next new other answer another (inl (e, p, same, says)) (inl (d, q, same', says')) in
+        (fills ∙ ap (filled this before) (first (Err e) (Err d) p q) ∙ sym fills', both.0, both.1)
+    filled_once first next after also new other answer another (inl (e, (p, fills), same, says)) (inr (b, (q, fills'), given')) =
+        let both = step_once first next new other answer another (inl (e, p, same, says)) (inr (b, q, given')) in
+        (fills ∙ ap (filled this before) (first (Err e) (Ok b) p q) ∙ sym fills', both.0, both.1)
+    filled_once first next after also new other answer another (inr (a, (p, fills), given)) (inl (d, (q, fills'), same', says')) =
+        let both = step_once first next new other answer another (inr (a, p, given)) (inl (d, q, same', says')) in
+        (fills ∙ ap (filled this before) (first (Ok a) (Err d) p q) ∙ sym fills', both.0, both.1)
+    filled_once first next after also new other answer another (inr (a, (p, fills), given)) (inr (b, (q, fills'), given')) =
+        let both = step_once first next new other answer another (inr (a, p, given)) (inr (b, q, given')) in
+        (fills ∙ ap (filled this before) (first (Ok a) (Ok b) p q) ∙ sym fills', both.0, both.1)
+
+    pub filled_some : AtLeastOne First → ((a : A) → First (Ok a) → Given (Next a))
+        → (after : T) × (new : List ℕ) × (answer : ShamirAnswer) × Step (Fills after) refusal Next old new answer
+    filled_some (Ok a, p) next = let (new, answer, given) = next a p in (this a, new, answer, inr (a, (p, refl), given))
+    filled_some (Err e, p) next = (before, old, refusal e, inl (e, (p, refl), refl, refl))
 
 -- ---- the output of a command
 

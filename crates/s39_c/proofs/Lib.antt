@@ -2,6 +2,7 @@ mod InSteps
 mod Outputs
 mod OneAnswer
 mod OneSecret
+mod OneDecryption
 mod MostExponents
 mod Rooms
 mod WordLines

@@ -1,9 +1,8 @@
 -- Of calls that take the greatest exponent: what they give is one thing where what else they give is.
-use Rattle.std.proofs.Common.{◌≡◌, ◌⊎◌, ℕ, ◌<◌, ◌≤◌, Bool, true, false, nat_lt, List, [], All, sym, ap, subst, refl, ◌∙◌, inl, inr, arith}
+use Rattle.std.proofs.Common.{◌≡◌, ◌⊎◌, ℕ, ◌<◌, ◌≤◌, Bool, true, false, nat_lt, List, [], sym, ap, subst, refl, ◌∙◌, inl, inr, arith}
 use Rattle.std.proofs.Common.{Option, Result, Ok, Err}
 use Rattle.std.specs.Prelude.{if◌then◌else◌}
 use Rattle.std.proofs.lemmas.Bool.{lt-ltb, le-ltb}
-use Rattle.s39_kdf.specs.Limits.{IsPrintable}
 use Rattle.s39_kdf.specs.declared.noted.NotedFingerprint.{NotedFingerprint}
 use Rattle.s39_kdf.specs.declared.secret_form.SecretForm.{SecretForm}
 use Rattle.s39_kdf.specs.declared.secret_form.SecretForm.TheVariants.{Digits}
@@ -19,7 +18,6 @@ use Rattle.s39_input.specs.Input.{whole}
 use Rattle.s39_input.specs.Accepted.{IsCheckedSet, CheckedSetLaws}
 use Rattle.s39_input.specs.Steps.{gives, refuses, nothing_for}
 use Rattle.s39_input.proofs.Steps.{AtMostOne, then_once}
-use Rattle.s39_input.proofs.Sets.Checked.{printable_of_checked}
 use Rattle.s39_drilling.specs.declared.drill.Done.{Done}
 use Rattle.s39_drilling.specs.declared.drill.Undrilled.TheVariants.{Lack as UndrilledLack}
 use Rattle.s39_drilling.specs.Drill.{IsDrillOutput}
@@ -63,9 +61,6 @@ module _ (most : ℕ) (passphrase lines : List ℕ) where
   checked_up_to set (gives other checked (refuses fault lacks is)) = absurd (cc)
   checked_up_to set (gives other checked (gives exponent has is)) =
       subst (λ (s : List ShareFields). IsCheckedSet passphrase (whole lines) (Ok s)) (chosen_set (nat_lt most exponent) exponent other set is) checked
-
-  pub printable_up_to : (set : List ShareFields) → IsUpTo most passphrase lines (Ok set) → All IsPrintable passphrase
-  printable_up_to set is = printable_of_checked passphrase (whole lines) set (checked_up_to set is)
 
   -- what a recovery of it gives is that of the lines
   pub secret_of_checked : (expected : Option NotedFingerprint) (set : List ShareFields) → IsCheckedSet passphrase (whole lines) (Ok set)

@@ -1,21 +1,20 @@
 -- What calls give of the same things, and of what was in memory, is one answer and one memory.
-use Rattle.std.proofs.Common.{◌≡◌, ◌≢◌, ℕ, ◌<◌, ◌^◌, Bool, true, List, [], ◌∷◌, length, length-append, refl, sym, ap, ap₂, subst, ◌∙◌, inl, inr}
+use Rattle.std.proofs.Common.{◌≡◌, ℕ, ◌<◌, ◌≤◌, ◌^◌, Bool, true, false, List, [], ◌∷◌, length, length-append, refl, sym, ap, subst, ◌∙◌, inl, inr}
 use Rattle.std.proofs.Common.{arith}
 use Rattle.std.proofs.Common.{Option, Some, None, Result, Ok, Err}
 use Rattle.std.proofs.Math.Bridge.{le_prop}
 use Rattle.hex.specs.Hex.{encode_lower}
 use Rattle.s39_kdf.specs.Fingerprint.{fingerprint_of}
-use Rattle.std.specs.Prelude.{◌↔◌}
-use Rattle.std.proofs.lemmas.Bool.{cases_Bool}
 use Rattle.s39_kdf.specs.Limits.{exponent_bits}
 use Rattle.std.specs.Fmt.{decimal}
+use Rattle.s39_words.specs.Share.{flag_bit}
 use Rattle.s39_set.specs.Names.{Names}
 use Rattle.s39_set.specs.Written.{name_text, quorum_text, IsWrittenForm}
 use Rattle.s39_backup.specs.declared.options.Options.{Options}
 use Rattle.s39_backup.specs.declared.plan.Members.{Members}
 use Rattle.s39_backup.specs.declared.plan_error.PlanError.{PlanError}
 use Rattle.s39_backup.specs.Plan.{IsPlan, IsPlanReading}
-use Rattle.s39_backup.specs.Created.{random_needed, Asked}
+use Rattle.s39_backup.specs.Created.{random_needed, Asked, asked_for}
 use Rattle.s39_input.proofs.Steps.{AtMostOne}
 use Rattle.s39_input.specs.declared.fault.Fault.{Fault}
 use Rattle.s39_drilling.specs.declared.listing.Listing.{Listing}
@@ -30,7 +29,7 @@ use Rattle.s39_drilling.specs.Drill.{IsDrillOutput}
 use Rattle.s39_drilling.specs.Slices.{Lists}
 use Rattle.s39_c.specs.declared.answer.ShamirAnswer.{ShamirAnswer}
 use Rattle.s39_c.specs.Answers.{done, created, number, out_of_range, cursor_refused, names_refused, fingerprint_refused, plan_refused, unwritten, listed}
-use Rattle.s39_c.specs.Creating.{Wanted, Asks, IsAsked, IsExponentInRange, GivesBackup, GivesNumber}
+use Rattle.s39_c.specs.Creating.{Wanted, AreOptions, GivesBackup, GivesNumber}
 use Rattle.s39_c.specs.Drilling.{IsCursor, IsInRange, GivesListing, GivesDrill}
 use Rattle.s39_c.specs.Fingerprinting.{GivesFingerprint}
 use Rattle.s39_c.specs.Reissuing.{AreListed, GivesReissued}
@@ -53,6 +52,41 @@ listed_once once listed (Ok names) (Ok others) p q = ap Ok (once listed names ot
 listed_once once listed (Ok names) (Err bad) p q = absurd (q names p)
 listed_once once listed (Err bad) (Ok names) p q = absurd (p names q)
 listed_once once listed (Err bad) (Err other) p q = refl
+
+-- ---- options
+
+-- the number of a flag is its flag's alone, and 0 or 1
+pub flag_bit_once : (a b : Bool) → flag_bit a ≡ flag_bit b → a ≡ b
+flag_bit_once true true same = refl
+flag_bit_once true false same = absurd (omega (arith, same))
+flag_bit_once false true same = absurd (omega (arith, same))
+flag_bit_once false false same = refl
+
+pub flag_bit_low : (flag : Bool) → flag_bit flag ≤ 1
+flag_bit_low true = omega arith
+flag_bit_low false = omega arith
+
+in_range : (p : Options) (exponent extendable : ℕ) → AreOptions exponent extendable (Ok p) → (exponent < 2 ^ exponent_bits) × (extendable ≤ 1)
+in_range p exponent extendable is =
+    let within = p.exponent_in_range in let low = flag_bit_low p.extendable in (rw is.0 within, rw is.1 low)
+
+abbrev of_fields : (exponent : ℕ) (extendable : Bool) → exponent < 2 ^ exponent_bits → Options
+of_fields exponent extendable within = record { exponent = exponent; extendable = extendable; exponent_in_range = within }
+
+-- options are known by their fields
+same_options : (p q : Options) → p.exponent ≡ q.exponent → p.extendable ≡ q.extendable → p ≡ q
+same_options p q exponent extendable =
+    subst (λ (e : ℕ). (k : e < 2 ^ exponent_bits) → p ≡ of_fields e q.extendable k) exponent
+    (λ k. subst (λ (f : Bool). p ≡ of_fields p.exponent f k) extendable
+    (ap (λ (t : p.exponent < 2 ^ exponent_bits). of_fields p.exponent p.extendable t) (le_prop p.exponent_in_range k)))
+    q.exponent_in_range
+
+options_once : (exponent extendable : ℕ) → AtMostOne (AreOptions exponent extendable)
+options_once exponent extendable (Ok p) (Ok q) is also =
+    ap Ok (same_options p q (sym is.0 ∙ also.0) (flag_bit_once p.extendable q.extendable (sym is.1 ∙ also.1)))
+options_once exponent extendable (Ok p) (Err bad) is none = absurd (none (in_range p exponent extendable is))
+options_once exponent extendable (Err bad) (Ok p) none is = absurd (none (in_range p exponent extendable is))
+options_once exponent extendable (Err bad) (Err other) none also = refl
 
 -- ---- a plan
 
@@ -88,59 +122,13 @@ module _ (one_plan_reading : (text : List ℕ) → AtMostOne (IsPlanReading text
 
   -- ---- a backup
 
-  same_flag : (a b : Bool) (P : Type 0) → (a ≡ true) ↔ P → (b ≡ true) ↔ P → a ≡ b
-  same_flag a b P is also = elim (cases_Bool a) [
-    | inl set ↦ set ∙ sym (also.1 (is.0 set))
-    | inr clear ↦ elim (cases_Bool b) [
-      | inl set ↦ is.1 (also.0 set) ∙ sym set
-      | inr none ↦ clear ∙ sym none
-    ]
-  ]
-
-  abbrev of_fields : (exponent : ℕ) (extendable : Bool) → exponent < 2 ^ exponent_bits → Options
-  of_fields exponent extendable within = record { exponent = exponent; extendable = extendable; exponent_in_range = within }
-
-  -- options are known by their fields
-  same_options : (p q : Options) → p.exponent ≡ q.exponent → p.extendable ≡ q.extendable → p ≡ q
-  same_options p q exponent extendable =
-      subst (λ (e : ℕ). (k : e < 2 ^ exponent_bits) → p ≡ of_fields e q.extendable k) exponent
-      (λ k. subst (λ (f : Bool). p ≡ of_fields p.exponent f k) extendable
-      (ap (λ (t : p.exponent < 2 ^ exponent_bits). of_fields p.exponent p.extendable t) (le_prop p.exponent_in_range k)))
-      q.exponent_in_range
-
-  abbrev asked_of : List ℕ → List ℕ → ℕ × List Members → Options → Asked
-  asked_of secret passphrase plan options =
-      record { secret = secret; passphrase = passphrase; group_threshold = plan.0; groups = plan.1; options = options }
-
-  asked_once : (wanted : Wanted) (asked other : Asked) → Asks wanted asked → Asks wanted other → asked ≡ other
-  asked_once wanted asked other is also =
-      let plans = same_plan (asked.group_threshold, asked.groups) (other.group_threshold, other.groups)
-      (one_plan_reading wanted.plan (Ok (asked.group_threshold, asked.groups)) (Ok (other.group_threshold, other.groups)) is.plan also.plan) in
-      let options : asked.options ≡ other.options = same_options asked.options other.options (is.exponent ∙ sym also.exponent)
-      (same_flag asked.options.extendable other.options.extendable (wanted.extendable ≢ 0) is.extendable also.extendable) in
-      ap₂ (λ s p. asked_of s p (asked.group_threshold, asked.groups) asked.options) (is.secret ∙ sym also.secret) (is.passphrase ∙ sym also.passphrase)
-      ∙ ap₂ (λ (plan : ℕ × List Members) (o : Options). asked_of other.secret other.passphrase plan o) plans options
-
-  range_once : (exponent : ℕ) → AtMostOne (IsExponentInRange exponent)
-  range_once exponent (Ok low) (Ok also) p q = refl
-  range_once exponent (Ok low) (Err high) p q = absurd (omega (arith, p, q))
-  range_once exponent (Err high) (Ok low) p q = absurd (omega (arith, p, q))
-  range_once exponent (Err high) (Err also) p q = refl
-
-  is_asked_once : (wanted : Wanted) → AtMostOne (IsAsked wanted)
-  is_asked_once wanted (Ok asked) (Ok other) is also = ap Ok (asked_once wanted asked other is also)
-  is_asked_once wanted (Ok asked) (Err e) is reads =
-      let plan : ℕ × List Members = (asked.group_threshold, asked.groups) in absurd (no_plan plan e (one_plan_reading wanted.plan (Ok plan) (Err e) is.plan reads))
-  is_asked_once wanted (Err e) (Ok asked) reads is =
-      let plan : ℕ × List Members = (asked.group_threshold, asked.groups) in absurd (no_plan plan e (one_plan_reading wanted.plan (Ok plan) (Err e) is.plan reads))
-  is_asked_once wanted (Err e) (Err d) reads also = ap Err (same_cause e d (one_plan_reading wanted.plan (Err e) (Err d) reads also))
-
   pub backup_once : ((asked : Asked) (input : Input) → OneOutput (IsCreateOutput asked input)) → (wanted : Wanted) (random old : List ℕ)
       → Once (GivesBackup wanted random old)
   backup_once one_create_output wanted random old =
-      step_once (IsExponentInRange wanted.exponent) (λ _. out_of_range) _ old (range_once wanted.exponent)
-      (λ _ _. step_once (IsAsked wanted) plan_refused _ old (is_asked_once wanted)
-      (λ asked _. output_once (λ text. created (length text) (lines_in text)) (IsCreateOutput asked (whole random)) old (one_create_output asked (whole random))))
+      step_once (AreOptions wanted.exponent wanted.extendable) (λ _. out_of_range) _ old (options_once wanted.exponent wanted.extendable)
+      (λ options _. step_once (IsPlanReading wanted.plan) plan_refused _ old (one_plan_reading wanted.plan)
+      (λ plan _. let asked = asked_for wanted.secret wanted.passphrase plan.0 plan.1 options in
+      output_once (λ text. created (length text) (lines_in text)) (IsCreateOutput asked (whole random)) old (one_create_output asked (whole random))))
 
   pub split_once : ((threshold : ℕ) (groups : List Members) (random : List ℕ) (input : Input) → OneOutput (IsResplitOutput threshold groups random input))
       → (plan lines random old : List ℕ) → Once (GivesSplit (λ threshold groups. IsResplitOutput threshold groups random (whole lines)) plan old)

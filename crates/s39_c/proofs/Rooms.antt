@@ -24,7 +24,7 @@ use Rattle.s39_backup.specs.declared.combination.Mismatch.TheVariants.{OfGroups}
 use Rattle.s39_backup.specs.declared.plan.Members.{Members}
 use Rattle.s39_backup.specs.declared.plan_error.PlanError.{PlanError}
 use Rattle.s39_backup.specs.declared.plan_error.PlanError.TheVariants.{BadPlan}
-use Rattle.s39_backup.specs.Created.{Asked}
+use Rattle.s39_backup.specs.Created.{Asked, asked_for}
 use Rattle.s39_backup.specs.Plan.{plan_cause_of}
 use Rattle.s39_backup.specs.RecoverError.{mismatch_cause_of}
 use Rattle.s39_kdf.specs.declared.secret_form.SecretForm.{SecretForm}
@@ -166,8 +166,9 @@ module _ (random old new : List ℕ) (needed : ℕ) (short : (asked : Asked) (in
     → length text ≤ longest_backup) where
   pub backup_fits : (wanted : Wanted) → GivesBackup wanted random old new (too_short needed) → length old < longest_backup
   backup_fits wanted (inl (high, range, same, says)) = let code : 2 ≡ 1 = no_other needed _ says in absurd (omega (arith, code))
-  backup_fits wanted (inr (low, range, inl (error, reads, same, says))) = absurd (no_refusal needed (plan_cause_of error) 0 (above-plan error) says)
-  backup_fits wanted (inr (low, range, inr (asked, asks, gives))) =
+  backup_fits wanted (inr (options, are, inl (error, reads, same, says))) = absurd (no_refusal needed (plan_cause_of error) 0 (above-plan error) says)
+  backup_fits wanted (inr (options, are, inr (plan, reads, gives))) =
+      let asked = asked_for wanted.secret wanted.passphrase plan.0 plan.1 options in
       output_fits (λ text. created (length text) (lines_in text)) (IsCreateOutput asked (whole random)) longest_backup (short asked (whole random))
       (λ text. refl) old new needed gives
 

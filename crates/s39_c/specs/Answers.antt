@@ -119,9 +119,10 @@ abbrev pub Writes : (List ℕ → Result (Unit {0}) Fault → Type 0) → Result
 Writes IsOutput (Ok text) = IsOutput text (Ok tt)
 Writes IsOutput (Err fault) = IsOutput [] (Err fault)
 
--- what a struct has: this if the bytes fit into a slice, and otherwise what it had
-abbrev pub HasIfFit : {T : Type 0} → List ℕ → List ℕ → T → T → T → Type 0
-HasIfFit bytes room this old new = (length bytes ≤ length room → new ≡ this) × (length room < length bytes → new ≡ old)
+-- what a struct has after a step: this of what the step gives, or what it had if the step is refused
+abbrev pub filled : {A E T : Type 0} → (A → T) → T → Result A E → T
+filled this old (Ok a) = this a
+filled this old (Err _) = old
 
 -- what a command with these outputs writes, with this answer for each text
 abbrev pub GivesOutputAs : (List ℕ → ShamirAnswer) → (List ℕ → Result (Unit {0}) Fault → Type 0) → List ℕ → List ℕ → ShamirAnswer → Type 0

@@ -1,10 +1,12 @@
 -- What `shamir_create` and `shamir_random_needed` give.
-use Rattle.std.specs.Prelude.{◌≡◌, ◌≢◌, ◌⊎◌, ℕ, ◌<◌, ◌≤◌, ◌^◌, List, length, true, ◌↔◌, Result, Ok, Err}
+use Rattle.std.specs.Prelude.{◌≡◌, ◌⊎◌, ℕ, ◌<◌, ◌≤◌, ◌^◌, List, length, Result, Ok, Err}
 use Rattle.s39_kdf.specs.Limits.{exponent_bits, IsSecretLength}
+use Rattle.s39_words.specs.Share.{flag_bit}
+use Rattle.s39_backup.specs.declared.options.Options.{Options}
 use Rattle.s39_backup.specs.declared.plan.Members.{Members}
 use Rattle.s39_backup.specs.declared.plan_error.PlanError.{PlanError}
 use Rattle.s39_backup.specs.Plan.{IsPlanReading}
-use Rattle.s39_backup.specs.Created.{random_needed, Asked}
+use Rattle.s39_backup.specs.Created.{random_needed, Asked, asked_for}
 use Rattle.s39_input.specs.Input.{lines_in, whole}
 use Rattle.s39_input.specs.Create.{IsCreateOutput}
 use Rattle.s39_c.specs.declared.answer.ShamirAnswer.{ShamirAnswer}
@@ -23,29 +25,17 @@ pub record Wanted : Type 0 where
   pub exponent : ℕ
   pub extendable : ℕ
 
--- what the plan's text and the numbers ask for
-pub record Asks (wanted : Wanted) (asked : Asked) : Type 0 where
-  pub plan : IsPlanReading wanted.plan (Ok (asked.group_threshold, asked.groups))
-  pub secret : asked.secret ≡ wanted.secret
-  pub passphrase : asked.passphrase ≡ wanted.passphrase
-  pub exponent : asked.options.exponent ≡ wanted.exponent
-  pub extendable : (asked.options.extendable ≡ true) ↔ (wanted.extendable ≢ 0)
+-- the options with these numbers, or that one of them is out of its range
+abbrev pub AreOptions : ℕ → ℕ → Result Options (Unit {0}) → Type 0
+AreOptions exponent extendable (Ok options) = (exponent ≡ options.exponent) × (extendable ≡ flag_bit options.extendable)
+AreOptions exponent extendable (Err _) = ¬ ((exponent < 2 ^ exponent_bits) × (extendable ≤ 1))
 
--- the exponent is one that a backup can have
-abbrev pub IsExponentInRange : ℕ → Result (Unit {0}) (Unit {0}) → Type 0
-IsExponentInRange exponent (Ok _) = exponent < 2 ^ exponent_bits
-IsExponentInRange exponent (Err _) = 2 ^ exponent_bits ≤ exponent
-
--- what is asked for, or that the text is no plan
-abbrev pub IsAsked : Wanted → Result Asked PlanError → Type 0
-IsAsked wanted (Ok asked) = Asks wanted asked
-IsAsked wanted (Err error) = IsPlanReading wanted.plan (Err error)
-
--- The first that applies: an exponent above 15; a text that is no plan; and then what that plan gives.
+-- The first that applies: an exponent above 15, or a flag above 1; a text that is no plan; and then what that plan gives.
 abbrev pub GivesBackup : Wanted → List ℕ → List ℕ → List ℕ → ShamirAnswer → Type 0
 GivesBackup wanted random old =
-    Step (IsExponentInRange wanted.exponent) (λ _. out_of_range) (λ _.
-    Step (IsAsked wanted) plan_refused (λ asked. GivesMnemonics asked random old) old) old
+    Step (AreOptions wanted.exponent wanted.extendable) (λ _. out_of_range) (λ options.
+    Step (IsPlanReading wanted.plan) plan_refused (λ plan.
+    GivesMnemonics (asked_for wanted.secret wanted.passphrase plan.0 plan.1 options) random old) old) old
 
 -- how many random bytes a plan's text takes for a secret of n bytes, or the refusal of the text, or of the length
 abbrev pub GivesNumber : List ℕ → ℕ → ShamirAnswer → Type 0

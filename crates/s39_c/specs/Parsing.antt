@@ -1,12 +1,11 @@
 -- What `shamir_parse` gives.
-use Rattle.std.specs.Prelude.{◌≡◌, ◌⊎◌, ℕ, List, Ok, Err}
+use Rattle.std.specs.Prelude.{◌≡◌, ℕ, List}
 use Rattle.s39_words.specs.declared.ShareFields.{ShareFields}
-use Rattle.s39_words.specs.declared.word_error.WordError.{WordError}
 use Rattle.s39_words.specs.Share.{flag_bit}
 use Rattle.s39_words.specs.Reading.{Reads}
 use Rattle.s39_c.specs.declared.answer.ShamirAnswer.{ShamirAnswer}
 use Rattle.s39_c.specs.declared.parsing.ShamirShare.{ShamirShare}
-use Rattle.s39_c.specs.Answers.{Gives, HasIfFit, word_refused}
+use Rattle.s39_c.specs.Answers.{Step, Gives, filled, word_refused}
 
 -- the fields of a share but its value
 abbrev pub header_of : ShareFields → ShamirShare
@@ -21,8 +20,8 @@ header_of f = record {
   member_threshold = f.member_threshold;
 }
 
--- The share that a line is read as, its value in a slice; or the first cause for which it is none, and nothing changes.
+-- The fields of the share that a line is read as, and its value in a slice, or that the value doesn't fit; or the first cause for
+-- which the line is no share, and nothing changes.
 abbrev pub GivesShare : List ℕ → ShamirShare → ShamirShare → List ℕ → List ℕ → ShamirAnswer → Type 0
-GivesShare line header header' old new answer =
-    ((fields : ShareFields) × Reads line (Ok fields) × HasIfFit fields.value.items old (header_of fields) header header' × Gives fields.value.items old new answer)
-    ⊎ ((error : WordError) × Reads line (Err error) × (header' ≡ header) × (new ≡ old) × (answer ≡ word_refused error))
+GivesShare line header header' old =
+    Step (λ read. Reads line read × (header' ≡ filled header_of header read)) word_refused (λ fields. Gives fields.value.items old) old

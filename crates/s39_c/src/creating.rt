@@ -1,7 +1,5 @@
 //! The calls that create a backup.
-ghost use Rattle.std.specs.Prelude.{◌≡◌, ◌≢◌, ◌↔◌, ◌<◌, ◌≤◌, ◌^◌, true, IfSome, None};
-ghost use Rattle.s39_kdf.specs.Limits.{exponent_bits};
-ghost use Rattle.s39_c.specs.Creating.{GivesMnemonics, GivesBackup, GivesNumber};
+ghost use Rattle.s39_c.specs.Creating.{AreOptions, GivesMnemonics, GivesBackup, GivesNumber};
 
 use crate::answer::ShamirAnswer;
 use crate::clearing::CREATE;
@@ -37,12 +35,12 @@ pub extern "C" fn shamir_random_needed(plan: &[u8], secret_bytes: usize) -> Sham
 /// members, and a line feed follows each. `written` is their length in bytes, and `first` is their number. The bytes
 /// after them are unchanged.
 ///
-/// `plan` is the text of the plan. `passphrase` may be empty. `exponent` is the iteration exponent, 0 to 15. The
-/// extendable flag is set if `extendable` isn't 0. `random` has exactly as many bytes as `shamir_random_needed` says.
+/// `plan` is the text of the plan. `passphrase` may be empty. `exponent` is the iteration exponent, 0 to 15, and
+/// `extendable` is the extendable flag, 0 or 1. `random` has exactly as many bytes as `shamir_random_needed` says.
 ///
-/// The call refuses with the first of these that applies, and `mnemonics` is then unchanged: 2 (the exponent), 31 to 34
-/// (the plan), 41 (the passphrase), 42 (the secret), 43 (the random bytes), 1 (`mnemonics` is too short, which the call
-/// notices only after the iterations).
+/// The call refuses with the first of these that applies, and `mnemonics` is then unchanged: 2 (the exponent or the
+/// flag), 31 to 34 (the plan), 41 (the passphrase), 42 (the secret), 43 (the random bytes), 1 (`mnemonics` is too short,
+/// which the call notices only after the iterations).
 ///
 /// ```c
 /// static char mnemonics[SHAMIR_MNEMONICS_BYTES_MAX];
@@ -92,7 +90,7 @@ fn create_answer(
       extendable = extendable;
     }) random.now mnemonics.old mnemonics.new result }
 {
-    let Some(options) = options_of(exponent, extendable) else {
+    let Ok(options) = options_of(exponent, extendable) else {
         return ShamirAnswer::out_of_range();
     };
     match Plan::parse_bytes(plan) {
@@ -101,22 +99,17 @@ fn create_answer(
     }
 }
 
-/// The options with this exponent and this extendable flag, or `None` if the exponent is above 15.
-fn options_of(exponent: u32, extendable: u32) -> Option<Options>
-    ensures exponent { IfSome result (λ options. options.exponent ≡ exponent) }
-    ensures extendable { IfSome result (λ options.
-        (options.extendable ≡ true) ↔ (extendable ≢ 0)) }
-    ensures some { IfSome result (λ _. exponent < 2 ^ exponent_bits) }
-    ensures none { result ≡ None → 2 ^ exponent_bits ≤ exponent }
+/// The options with this exponent and this extendable flag, unless the exponent is above 15 or the flag above 1.
+fn options_of(exponent: u32, extendable: u32) -> Result<Options, ()>
+    ensures { AreOptions exponent extendable result }
 {
-    if exponent <= u32::from(MAX_EXPONENT) {
-        Some(Options {
-            exponent: exponent as u8,
-            extendable: extendable != 0,
-        })
-    } else {
-        None
+    if u32::from(MAX_EXPONENT) < exponent || 1 < extendable {
+        return Err(());
     }
+    Ok(Options {
+        exponent: exponent as u8,
+        extendable: extendable == 1,
+    })
 }
 
 /// Creates a backup by this plan.

@@ -1,7 +1,6 @@
 //! The call that decrypts an encrypted secret.
-ghost use Rattle.std.specs.Prelude.{◌≡◌, IfSome, None};
 ghost use Rattle.s39_reading.specs.Encrypted.{IsDecryption};
-ghost use Rattle.s39_c.specs.Encrypted.{AreInRange, GivesDecrypted, GivesDecryption, parameters_of};
+ghost use Rattle.s39_c.specs.Encrypted.{AreParameters, GivesDecrypted, GivesDecryption};
 ghost use Rattle.s39_c.specs.Recovering.{GivesExpectedSecret};
 
 use crate::answer::ShamirAnswer;
@@ -64,20 +63,19 @@ fn decrypt_answer(
         expected.now secret.old secret.new result }
 {
     match params_of(parameters) {
-        Some(params) => decrypt_by(params, encrypted, passphrase, expected, secret),
-        None => ShamirAnswer::out_of_range(),
+        Ok(params) => decrypt_by(params, encrypted, passphrase, expected, secret),
+        Err(()) => ShamirAnswer::out_of_range(),
     }
 }
 
-/// The parameters with these numbers, or `None` if a number is out of its range.
-fn params_of(parameters: &ShamirParameters) -> Option<Params>
-    ensures some { IfSome result (λ params. parameters.now ≡ parameters_of params) }
-    ensures none { result ≡ None → ¬ AreInRange parameters.now }
+/// The parameters with these numbers, unless a number is out of its range.
+fn params_of(parameters: &ShamirParameters) -> Result<Params, ()>
+    ensures { AreParameters parameters.now result }
 {
     if MAX_ID < parameters.id || 1 < parameters.extendable || MAX_EXPONENT < parameters.exponent {
-        return None;
+        return Err(());
     }
-    Some(Params {
+    Ok(Params {
         id: parameters.id,
         extendable: parameters.extendable == 1,
         exponent: parameters.exponent,

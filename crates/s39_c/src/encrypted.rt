@@ -26,7 +26,7 @@ pub struct ShamirParameters {
 /// to `parameters`, and the encrypted secret to the start of `encrypted`. `written` is its length, which is that of the
 /// secret. The bytes after it are unchanged.
 ///
-/// The call refuses with the first of these that applies, and `parameters` and `encrypted` are then unchanged:
+/// The call refuses with the first of these that applies, and `encrypted` is then unchanged. So is `parameters`, except at 1:
 ///
 /// - the code of the first refused line (11 to 28, 71), then 29, 30;
 /// - 51 (a digest mismatch in the first quorum);
@@ -61,11 +61,8 @@ fn encrypted_answer(
 {
     match encrypted_in(lines) {
         Ok(found) => {
-            let answer = give(found.bytes.as_slice(), encrypted);
-            if answer.code == 0 {
-                *parameters = parameters_of(found.params);
-            }
-            answer
+            *parameters = parameters_of(found.params);
+            give(found.bytes.as_slice(), encrypted)
         }
         Err(fault) => ShamirAnswer::from(fault),
     }

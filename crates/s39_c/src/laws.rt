@@ -10,16 +10,19 @@ ghost use Rattle.s39_set.specs.ShareSet.{IsShareSet};
 ghost use Rattle.s39_set.specs.Listing.{AreAllQuorumsAfter};
 ghost use Rattle.s39_drilling.specs.Drill.{IsDrillOutput};
 ghost use Rattle.s39_input.specs.Input.{whole};
+ghost use Rattle.s39_reading.specs.Encrypted.{IsDecryption};
 ghost use Rattle.s39_reading.specs.Recover.{IsRecoverOutput};
 ghost use Rattle.s39_creating.specs.Reissue.{IsReissueOutput};
 ghost use Rattle.s39_creating.specs.Resplit.{IsResplitOutput};
 ghost use Rattle.s39_reading.specs.Status.{IsStatusOutput};
 ghost use Rattle.s39_c.specs.declared.answer.ShamirAnswer.{ShamirAnswer as Answer};
+ghost use Rattle.s39_c.specs.declared.encrypted.ShamirParameters.{ShamirParameters as Parameters};
 ghost use Rattle.s39_c.specs.declared.parsing.ShamirShare.{ShamirShare as Header};
 ghost use Rattle.s39_c.specs.Answers.{number};
 ghost use Rattle.s39_c.specs.Counting.{counted_answer};
 ghost use Rattle.s39_c.specs.Creating.{Wanted, GivesBackup, GivesNumber};
 ghost use Rattle.s39_c.specs.Drilling.{GivesDrill, GivesListing};
+ghost use Rattle.s39_c.specs.Encrypted.{GivesDecrypted, GivesEncrypted};
 ghost use Rattle.s39_c.specs.Exponents.{GivesUpTo};
 ghost use Rattle.s39_c.specs.Fingerprinting.{GivesFingerprint};
 ghost use Rattle.s39_c.specs.Parsing.{GivesShare};
@@ -34,7 +37,10 @@ use s39_backup::laws::one_plan_reading;
 use s39_creating::laws::{one_create_output, one_reissue_output, one_resplit_output};
 use s39_drilling::laws::one_listing_in_a_slice;
 use s39_input::laws::one_checked_set;
-use s39_reading::laws::{one_exponent, one_recover_output, shares_have_the_exponent};
+use s39_reading::laws::{
+    one_decryption, one_encrypted_secret, one_exponent, one_recover_output,
+    shares_have_the_exponent,
+};
 use s39_repair::laws::one_answer;
 use s39_set::laws::{quorums_are_counted, written_forms};
 use s39_words::laws::one_printed_form;
@@ -92,6 +98,33 @@ pub fn one_secret()
     one_checked_set();
     one_exponent();
     one_recover_output();
+}
+
+/// Lines determine the parameters, the buffer of the encrypted secret and the answer of `shamir_encrypted`, and there are such ones.
+pub fn one_encrypted()
+    ensures once { (lines : List ℕ) (parameters first second : Parameters) (old new other : List ℕ)
+        (answer another : Answer) → GivesEncrypted lines parameters first old new answer
+        → GivesEncrypted lines parameters second old other another
+        → (first ≡ second) × (new ≡ other) × (answer ≡ another) }
+    ensures exists { (lines : List ℕ) (parameters : Parameters) (old : List ℕ)
+        → (after : Parameters) × (new : List ℕ) × (answer : Answer) × GivesEncrypted lines parameters after old new answer }
+{
+    one_encrypted_secret();
+}
+
+/// Parameters, an encrypted secret, a passphrase and the text of a fingerprint determine the buffer of the secret and the answer of
+/// `shamir_decrypt`, and there are such ones.
+pub fn one_decrypted()
+    ensures once { (parameters : Parameters) (passphrase encrypted digits old new other : List ℕ)
+        (answer another : Answer)
+        → GivesDecrypted parameters (λ params noted. IsDecryption noted passphrase (params, encrypted)) digits old new answer
+        → GivesDecrypted parameters (λ params noted. IsDecryption noted passphrase (params, encrypted)) digits old other another
+        → (new ≡ other) × (answer ≡ another) }
+    ensures exists { (parameters : Parameters) (passphrase encrypted digits old : List ℕ)
+        → (new : List ℕ) × (answer : Answer)
+        × GivesDecrypted parameters (λ params noted. IsDecryption noted passphrase (params, encrypted)) digits old new answer }
+{
+    one_decryption();
 }
 
 /// Lines, passphrase, maximum exponent, cursor, limit, the number of the form and the text of a fingerprint determine the

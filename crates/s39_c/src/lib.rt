@@ -2,7 +2,8 @@
 //! exports.
 //!
 //! Each export reads and writes buffers of its caller, and returns a `ShamirAnswer`. A slice `&[u8]` or `&mut [u8]`
-//! here is two parameters in C: a pointer, and a length in bytes. On refusal nothing is written.
+//! here is two parameters in C: a pointer, and a length in bytes. On refusal no slice is changed, and no struct
+//! unless a slice is too short.
 #![tactic(auto)]
 
 mod answer;

@@ -34,8 +34,8 @@ pub struct ShamirShare {
 /// word is refused with 11. The fields go to `share`. The value of the share goes to the start of `value`; it has an
 /// even number of bytes, 16 to 128, and `written` is that number. The bytes after it are unchanged.
 ///
-/// The call refuses with the first of these that applies, and `share` and `value` are then unchanged: 11 to 15 (the
-/// line isn't a mnemonic), 1 (`value` is too short).
+/// The call refuses with the first of these that applies, and `value` is then unchanged: 11 to 15 (the line isn't a
+/// mnemonic, and `share` is unchanged too), 1 (`value` is too short, and `share` has the fields).
 ///
 /// ```c
 /// shamir_share share;
@@ -63,11 +63,8 @@ fn parse_answer(line: &[u8], share: &mut ShamirShare, value: &mut [u8]) -> Shami
     match parse(line) {
         Ok(read) => {
             let fields = read.fields();
-            let answer = give(fields.value.as_slice(), value);
-            if answer.code == 0 {
-                *share = header_of(fields);
-            }
-            answer
+            *share = header_of(fields);
+            give(fields.value.as_slice(), value)
         }
         Err(error) => ShamirAnswer::from(error),
     }

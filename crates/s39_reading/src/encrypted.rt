@@ -27,7 +27,7 @@ use s39_set::laws::{one_first_quorum, one_lack, quorum_or_lack};
 use s39_set::{ShareSet, first};
 
 /// An encrypted master secret, and what decrypts it beside the passphrase.
-#[derive(Debug, Drop)]
+#[derive(Drop)]
 pub struct EncryptedSecret {
     /// The parameters of the backup.
     pub params: Params,

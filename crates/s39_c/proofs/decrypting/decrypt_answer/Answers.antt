@@ -1,5 +1,5 @@
 use Rattle.std.proofs.Common.{inr}
 use Rattle.s39_c.proofs.decrypting.decrypt_answer.Goals as goal
 
-pub returns-in-Some : goal.returns-in-Some
-returns-in-Some c = inr (c.in-Some.params, c.in-Some.ensures.some, c.decrypt_by.ensures)
+pub returns-in-Ok : goal.returns-in-Ok
+returns-in-Ok c = inr (c.in-Ok.params, c.in-Ok.ensures, c.decrypt_by.ensures)
