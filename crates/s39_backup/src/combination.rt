@@ -1,7 +1,7 @@
 //! What the shares of a quorum combine to (SLIP-0039, "Shamir's secret sharing").
-ghost use Rattle.std.specs.Prelude.{◌≡◌, ◌≤◌, ◌%◌, ℕ, List, map, All, Contains, IfOk, IsOkAnd};
+ghost use Rattle.std.specs.Prelude.{◌≡◌, [], ◌≤◌, ◌%◌, ℕ, List, map, All, Contains, IfOk, IsOkAnd};
 ghost use Rattle.std.specs.Option.{option_map};
-ghost use Rattle.std.specs.Result.{result_ok};
+ghost use Rattle.std.specs.Result.{result_ok, result_map_both};
 ghost use Rattle.arrayvec.specs.ArrayVec.{array_vec_len};
 ghost use Rattle.s39_kdf.specs.Limits.{shortest_secret};
 ghost use Rattle.s39_lists.specs.Each.{each};
@@ -12,7 +12,7 @@ ghost use Rattle.s39_backup.specs.Combination.{combination_of, in_bytes, group_s
 ghost use Rattle.s39_backup.specs.Outcome.{AreParams};
 ghost use Rattle.s39_backup.specs.RecoverError.{mismatch_cause_of};
 ghost use Rattle.s39_backup.specs.Created.{AreOfBackup};
-ghost use Rattle.s39_backup.specs.GroupShares.{IsExactQuorum, AreOfOneLevel, indexed_group_shares, in_pairs};
+ghost use Rattle.s39_backup.specs.GroupShares.{IsExactQuorum, AreOfOneLevel, indexed_group_shares};
 
 use crate::laws::every_quorum_combines;
 use arrayvec::ArrayVec;
@@ -81,7 +81,8 @@ pub fn combine_quorum(set: &ShareSet, quorum: &Quorum) -> Result<Bytes, Mismatch
     are_a_share_set(set);
     every_quorum_combines();
     quorums_are_exact();
-    let shares = group_shares(set, quorum.pairs())?;
+    let mut shares = GroupShares::new();
+    group_shares(set, quorum.pairs(), &mut shares)?;
     match combine_all(&lend(&shares)) {
         Ok(encrypted) => Ok(encrypted),
         Err(DigestMismatch) => Err(Mismatch::OfGroups),
@@ -127,12 +128,18 @@ fn first_share<'a>(set: &'a ShareSet, names: &[(u8, u8)]) -> &'a Share
     share_at(set, name.0, name.1).unwrap()
 }
 
-/// The group shares to which the shares of each group combine, or the first group that is refused.
-fn group_shares(set: &ShareSet, names: &[(u8, u8)]) -> Result<GroupShares, Mismatch>
-    requires { IsExactQuorum set.now names.now }
-    ensures { each (group_share set.now names.now) (groups_of names.now) ≡ in_pairs result }
+/// Fills an empty list with the group shares to which the shares of each group combine, or names the first group that is
+/// refused. A list that is returned would be copied, with its unused places.
+fn group_shares(
+    set: &ShareSet,
+    names: &[(u8, u8)],
+    shares: &mut GroupShares,
+) -> Result<(), Mismatch>
+    requires quorum { IsExactQuorum set.now names.now }
+    requires empty { shares.old.items ≡ [] }
+    ensures { each (group_share set.now names.now) (groups_of names.now)
+        ≡ result_map_both (λ _. indexed_group_shares shares.new.items) (λ mismatch. mismatch) result }
 {
-    let mut shares = GroupShares::new();
     for group in 0..MAX_GROUPS {
         let members = member_shares(set, names, group);
         if !members.is_empty() {
@@ -142,7 +149,7 @@ fn group_shares(set: &ShareSet, names: &[(u8, u8)]) -> Result<GroupShares, Misma
             shares.push(Some((group, share)));
         }
     }
-    Ok(shares)
+    Ok(())
 }
 
 /// The shares of a group among these names, each as its member index and its lent value.

@@ -3,6 +3,7 @@ use Rattle.std.proofs.Common.{◌≡◌, ℕ, ◌+◌, ◌-◌, ◌*◌, ◌/◌
 use Rattle.std.proofs.Common.{inl, inr, bit_and, bit_xor, refl, sym, ap, ap₂, ◌∙◌, arith, w8, Fits, pow-add, pow_pos, mod-eq_of_lt}
 use Rattle.std.proofs.lemmas.List.FromFn.{get_or-map-range_with_len}
 use Rattle.std.proofs.lemmas.List.{map-id}
+use Rattle.std.proofs.Math.Nat.{div-div-eq-div-mul}
 use Rattle.std.proofs.lemmas.Nat.{and_mask, mod_below, mod-pow-add}
 use Rattle.std.proofs.lemmas.Simd.{zip2_splat, zip2_of_maps, splat_is_map, map-map}
 use Rattle.std.specs.Int.Bits.{xor_shifted, and_zero_r}
@@ -12,7 +13,7 @@ use Rattle.s39_field.specs.FieldProduct.{byte_field, byte_modulus, reduction}
 use Rattle.s39_field.specs.Theory.Powers.{byte_degree}
 use Rattle.s39_field.specs.Theory.BinaryPolynomials.{bit_cases, product_commutes, sum_commutes, sum-zero_right}
 use Rattle.s39_field.specs.Theory.Residues.{doubled, product-two, product_modulo-lt, product_modulo-one, product_modulo-zero}
-use Rattle.s39_field.specs.Theory.Residues.{product_modulo-product, product_modulo_commutes, product_modulo_distributes}
+use Rattle.s39_field.specs.Theory.Residues.{product_modulo-product, product_modulo_distributes}
 use Rattle.s39_field.specs.BinaryPolynomial.{binary_sum, binary_product}
 
 -- the operations of a lane
@@ -65,42 +66,52 @@ doubled_by_lanes n row fits =
     (zip2_splat shift_left row n 1 fits.0) reduced
     ∙ same_on_lanes lane_doubled (λ a. byte_field.mul a 2) lane_doubled-is row fits.1
 
--- ---- the product of each lane with w, by the binary digits of w from the lowest on
+-- ---- the product of w with each lane, by the binary digits of the lane from the lowest on
 
 the_same : (f g : ℕ → ℕ) (row : List ℕ) → ((x : ℕ) → f x ≡ g x) → map f row ≡ map g row
 the_same f g row same = ap (λ h. map h row) (λ i x. same x i)
 
 -- before the first digit, and after the last one
-pub no_digits : (w n : ℕ) (row : List ℕ) → length row ≡ n → replicate n 0 ≡ map (λ x. byte_field.mul x (w % 2 ^ 0)) row
+pub no_digits : (w n : ℕ) (row : List ℕ) → length row ≡ n → replicate n 0 ≡ map (λ x. byte_field.mul w (x % 2 ^ 0)) row
 no_digits w n row size =
-    let none : 0 ≡ w % 2 ^ 0 = omega (arith, mod_below w 1 (omega arith)) in
     splat_is_map row n 0 size
-    ∙ the_same (λ x. 0) (λ x. byte_field.mul x (w % 2 ^ 0)) row
-    (λ x. sym (product_modulo-zero byte_modulus x) ∙ ap (byte_field.mul x) none)
+    ∙ the_same (λ x. 0) (λ x. byte_field.mul w (x % 2 ^ 0)) row
+    (λ x.
+    let none : 0 ≡ x % 2 ^ 0 = omega (arith, mod_below x 1 (omega arith)) in
+    sym (product_modulo-zero byte_modulus w) ∙ ap (byte_field.mul w) none)
 
-pub not_shifted : (row : List ℕ) → Each1 (Fits w8) row → row ≡ map (λ x. byte_field.mul x 1) row
-not_shifted row fits =
-    sym (map-id row) ∙ same_on_lanes (λ x. x) (λ x. byte_field.mul x 1) (λ x low. sym (product_modulo-one byte_modulus byte_degree x low)) row fits
+pub not_shifted : (w n : ℕ) (row : List ℕ) → byte_field.IsElement w → length row ≡ n → replicate n w ≡ map (λ x. byte_field.mul w (2 ^ 0)) row
+not_shifted w n row low size =
+    ap (replicate n) (sym (product_modulo-one byte_modulus byte_degree w low)) ∙ splat_is_map row n (byte_field.mul w 1) size
 
-pub all_digits : (w : ℕ) (row : List ℕ) → byte_field.IsElement w → map (λ x. byte_field.mul x (w % 2 ^ 8)) row ≡ map (byte_field.mul w) row
-all_digits w row low =
-    the_same (λ x. byte_field.mul x (w % 2 ^ 8)) (byte_field.mul w) row
-    (λ x. ap (byte_field.mul x) (mod-eq_of_lt low) ∙ product_modulo_commutes byte_modulus x w)
+pub all_left : (row : List ℕ) → row ≡ map (λ x. x / 2 ^ 0) row
+all_left row = sym (map-id row) ∙ the_same (λ x. x) (λ x. x / 2 ^ 0) row (λ x. omega arith)
+
+pub all_digits : (w : ℕ) (row : List ℕ) → Each1 (Fits w8) row → map (λ x. byte_field.mul w (x % 2 ^ 8)) row ≡ map (byte_field.mul w) row
+all_digits w row fits =
+    same_on_lanes (λ x. byte_field.mul w (x % 2 ^ 8)) (byte_field.mul w) (λ x low. ap (byte_field.mul w) (mod-eq_of_lt low)) row fits
 
 -- one digit more
-pub shifted_more : (k : ℕ) (row : List ℕ) {shifted double : List ℕ}
-    → shifted ≡ map (λ x. byte_field.mul x (2 ^ k)) row
+pub shifted_more : (w k : ℕ) (row : List ℕ) {shifted double : List ℕ}
+    → shifted ≡ map (λ x. byte_field.mul w (2 ^ k)) row
     → double ≡ map (λ a. byte_field.mul a 2) shifted
-    → double ≡ map (λ x. byte_field.mul x (2 ^ (k + 1))) row
-shifted_more k row before doubles =
+    → double ≡ map (λ x. byte_field.mul w (2 ^ (k + 1))) row
+shifted_more w k row before doubles =
     doubles
     ∙ ap (map (λ a. byte_field.mul a 2)) before
-    ∙ map-map (λ a. byte_field.mul a 2) (λ x. byte_field.mul x (2 ^ k)) row
-    ∙ the_same (λ x. byte_field.mul (byte_field.mul x (2 ^ k)) 2) (λ x. byte_field.mul x (2 ^ (k + 1))) row
-    (λ x. sym (product_modulo-product byte_modulus byte_degree x (2 ^ k) 2) ∙ ap (byte_field.mul x) twice)
+    ∙ map-map (λ a. byte_field.mul a 2) (λ x. byte_field.mul w (2 ^ k)) row
+    ∙ the_same (λ x. byte_field.mul (byte_field.mul w (2 ^ k)) 2) (λ x. byte_field.mul w (2 ^ (k + 1))) row
+    (λ x. sym (product_modulo-product byte_modulus byte_degree w (2 ^ k) 2) ∙ ap (byte_field.mul w) twice)
   where
     twice : binary_product (2 ^ k) 2 ≡ 2 ^ (k + 1)
     twice = product_commutes (2 ^ k) 2 ∙ product-two (2 ^ k) ∙ omega (arith, pow-add 2 k 1)
+
+pub rest_less : (k n : ℕ) (row : List ℕ) {rest : List ℕ} → length row ≡ n → rest ≡ map (λ x. x / 2 ^ k) row
+    → zip2 shift_right rest (replicate n 1) ≡ map (λ x. x / 2 ^ (k + 1)) row
+rest_less k n row size before =
+    zip2_of_maps shift_right (λ x. x / 2 ^ k) (λ x. 1) row before (splat_is_map row n 1 size)
+    ∙ the_same (λ x. shift_right (x / 2 ^ k) 1) (λ x. x / 2 ^ (k + 1)) row
+    (λ x. div-div-eq-div-mul x (2 ^ k) 2 ∙ ap (λ n. x / n) (sym (pow-add 2 k 1)))
 
 digit_taken : (w k x digit : ℕ) → digit ≡ w / 2 ^ k % 2
     → bit_xor (byte_field.mul x (w % 2 ^ k)) (bit_and (byte_field.mul x (2 ^ k)) (subtract 0 digit))
@@ -131,18 +142,19 @@ digit_taken w k x digit is =
           ∙ ap (byte_field.mul x) joined
     ]
 
-pub sum_more : (w k n rest : ℕ) (row : List ℕ) {sum shifted : List ℕ}
+pub sum_more : (w k n : ℕ) (row : List ℕ) {sum shifted rest : List ℕ}
     → length row ≡ n
-    → rest ≡ w / 2 ^ k
-    → sum ≡ map (λ x. byte_field.mul x (w % 2 ^ k)) row
-    → shifted ≡ map (λ x. byte_field.mul x (2 ^ k)) row
-    → zip2 bit_xor sum (zip2 bit_and shifted (replicate n (subtract 0 (bit_and rest 1))))
-    ≡ map (λ x. byte_field.mul x (w % 2 ^ (k + 1))) row
-sum_more w k n rest row size left sum_is shifted_is =
-    let digit : bit_and rest 1 ≡ w / 2 ^ k % 2 = and_mask rest 1 ∙ ap (λ r. r % 2) left in
-    let mask = subtract 0 (bit_and rest 1) in
-    let taken = zip2_of_maps bit_and (λ x. byte_field.mul x (2 ^ k)) (λ x. mask) row shifted_is (splat_is_map row n mask size) in
-    zip2_of_maps bit_xor (λ x. byte_field.mul x (w % 2 ^ k)) (λ x. bit_and (byte_field.mul x (2 ^ k)) mask) row sum_is taken
-    ∙ the_same (λ x. bit_xor (byte_field.mul x (w % 2 ^ k)) (bit_and (byte_field.mul x (2 ^ k)) mask))
-    (λ x. byte_field.mul x (w % 2 ^ (k + 1))) row
-    (λ x. digit_taken w k x (bit_and rest 1) digit)
+    → sum ≡ map (λ x. byte_field.mul w (x % 2 ^ k)) row
+    → shifted ≡ map (λ x. byte_field.mul w (2 ^ k)) row
+    → rest ≡ map (λ x. x / 2 ^ k) row
+    → zip2 bit_xor sum (zip2 bit_and shifted (zip2 subtract (replicate n 0) (zip2 bit_and rest (replicate n 1))))
+    ≡ map (λ x. byte_field.mul w (x % 2 ^ (k + 1))) row
+sum_more w k n row size sum_is shifted_is rest_is =
+    let digits = zip2_of_maps bit_and (λ x. x / 2 ^ k) (λ x. 1) row rest_is (splat_is_map row n 1 size) in
+    let masks = zip2_of_maps subtract (λ x. 0) (λ x. bit_and (x / 2 ^ k) 1) row (splat_is_map row n 0 size) digits in
+    let mask : ℕ → ℕ = λ x. subtract 0 (bit_and (x / 2 ^ k) 1) in
+    let taken = zip2_of_maps bit_and (λ x. byte_field.mul w (2 ^ k)) mask row shifted_is masks in
+    zip2_of_maps bit_xor (λ x. byte_field.mul w (x % 2 ^ k)) (λ x. bit_and (byte_field.mul w (2 ^ k)) (mask x)) row sum_is taken
+    ∙ the_same (λ x. bit_xor (byte_field.mul w (x % 2 ^ k)) (bit_and (byte_field.mul w (2 ^ k)) (mask x)))
+    (λ x. byte_field.mul w (x % 2 ^ (k + 1))) row
+    (λ x. digit_taken x k w (bit_and (x / 2 ^ k) 1) (and_mask (x / 2 ^ k) 1))

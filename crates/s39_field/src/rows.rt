@@ -32,13 +32,13 @@ pub fn lanes(w: Gf256, row: u8x16) -> u8x16
     ensures { result ≡ map (byte_field.mul w) row }
 {
     let mut sum = u8x16::splat(0);
-    let mut shifted = row;
-    let mut rest = u8::from(w);
+    let mut shifted = u8x16::splat(u8::from(w));
+    let mut rest = row;
     for _ in 0..u8::BITS {
-        let taken = u8x16::splat(0) - u8x16::splat(rest & 1);
+        let taken = u8x16::splat(0) - (rest & u8x16::splat(1));
         sum ^= shifted & taken;
         shifted = doubled_lanes(shifted);
-        rest >>= 1;
+        rest = rest >> 1;
     }
     sum
 }

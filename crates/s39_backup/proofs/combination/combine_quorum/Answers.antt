@@ -22,13 +22,16 @@ exact c = record {
 }
 
 pub group_shares-requires : goal.group_shares-requires
-group_shares-requires c = subst (IsExactQuorum c.args.set.now) (sym c.pairs.ensures.same) (exact (goal.at.group_shares-requires c).After-pairs)
+group_shares-requires c = record {
+  quorum = subst (IsExactQuorum c.args.set.now) (sym c.pairs.ensures.same) (exact (goal.at.group_shares-requires c).After-pairs);
+  empty = c.new-shares.ensures;
+}
 
 -- the shares of the groups
 all : (c : After-lend) → each (group_share c.args.set.now c.args.quorum.now) (groups_of c.args.quorum.now) ≡ Ok c.lend.result
 all c =
     subst (λ names. each (group_share c.args.set.now names) (groups_of names) ≡ Ok c.lend.result) c.pairs.ensures.same
-    (c.in_ok-shares.ensures ∙ ap (λ pairs. Ok pairs) (sym c.lend.ensures))
+    (c.in_ok-group_shares.ensures ∙ ap (λ pairs. Ok pairs) (sym c.lend.ensures))
 
 pub combine_all-requires : goal.combine_all-requires
 combine_all-requires c =
@@ -38,12 +41,12 @@ combine_all-requires c =
     )
 
 -- what the code answers
-pub returns-in_err-shares-clause-combination : goal.returns-in_err-shares-clause-combination
+pub returns-in_err-group_shares-clause-combination : goal.returns-in_err-group_shares-clause-combination
 unfolding combination_of
-returns-in_err-shares-clause-combination c =
+returns-in_err-group_shares-clause-combination c =
     let error = err_from_is_err_and c.from_residual.result c.from_residual.ensures.1 in
-    let refused = subst (λ names. each (group_share c.args.set.now names) (groups_of names) ≡ Err c.in_err-shares.field-0.0) c.pairs.ensures.same
-    c.in_err-shares.ensures in
+    let refused = subst (λ names. each (group_share c.args.set.now names) (groups_of names) ≡ Err c.in_err-group_shares.field-0.0) c.pairs.ensures.same
+    c.in_err-group_shares.ensures in
     rw (error.1, error.2) (ap (and_then (λ shares. ok_or (combined shares) OfGroups)) refused)
 
 pub returns-in-Ok-clause-combination : goal.returns-in-Ok-clause-combination
@@ -87,10 +90,10 @@ created c passphrase secret backup result is =
     ok_with result backup.created.encrypted
     (sym is ∙ c.every_quorum_combines.ensures c.args.set.now c.args.quorum.now passphrase secret c.are_a_share_set.ensures c.requires backup)
 
-pub returns-in_err-shares-clause-created : goal.returns-in_err-shares-clause-created
-returns-in_err-shares-clause-created c = λ passphrase secret backup.
-    created (goal.at.returns-in_err-shares-clause-created c).After-pairs passphrase secret backup c.from_residual.result
-    (returns-in_err-shares-clause-combination c)
+pub returns-in_err-group_shares-clause-created : goal.returns-in_err-group_shares-clause-created
+returns-in_err-group_shares-clause-created c = λ passphrase secret backup.
+    created (goal.at.returns-in_err-group_shares-clause-created c).After-pairs passphrase secret backup c.from_residual.result
+    (returns-in_err-group_shares-clause-combination c)
 
 pub returns-in-Ok-clause-created : goal.returns-in-Ok-clause-created
 returns-in-Ok-clause-created c = λ passphrase secret backup.

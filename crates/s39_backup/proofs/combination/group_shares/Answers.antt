@@ -14,7 +14,7 @@ combine_all-requires c =
     let set = c.args.set.now in
     let members = c.member_shares-members.result in (
       value_bytes_of set,
-      members_can set c.args.names.now c.requires c.loop-group.group members c.member_shares-members.ensures
+      members_can set c.args.names.now c.requires.quorum c.loop-group.group members c.member_shares-members.ensures
           (some_from_test c.is_empty.result (length members) c.is_empty.ensures c.if-not-is_empty.true),
     )
 
@@ -25,8 +25,8 @@ returns-in_default c =
     let group = c.loop-group.group in
     let members = c.member_shares-members.result in
     let some : 0 < length members = some_from_test c.is_empty.result (length members) c.is_empty.ensures c.if-not-is_empty.true in
-    stops_at_group set names c.requires group (indexed_group_shares c.loop-group.shares.items) c.loop-group.invariant.combined (InGroup group)
-    c.loop-group-test.true (omega (arith, length-members set names c.requires group members c.member_shares-members.ensures))
+    stops_at_group set names c.requires.quorum group (indexed_group_shares c.loop-group.shares.items) c.loop-group.invariant.combined (InGroup group)
+    c.loop-group-test.true (omega (arith, length-members set names c.requires.quorum group members c.member_shares-members.ensures))
     (ap (share_or_mismatch group) (ap combined (sym c.member_shares-members.ensures) ∙ sym c.in_default.ensures))
 
 pub push-requires : goal.push-requires
@@ -44,8 +44,8 @@ loop-group-preserved c =
       | then-not-is_empty+in-Ok w ↦
           let some : 0 < length members = some_from_test c.is_empty.result (length members) c.is_empty.ensures w.if-not-is_empty.true in
           record {
-            combined = with_group set names c.requires group (indexed_group_shares shares) before (group, w.in-Ok.share.items)
-                (omega (arith, length-members set names c.requires group members c.member_shares-members.ensures))
+            combined = with_group set names c.requires.quorum group (indexed_group_shares shares) before (group, w.in-Ok.share.items)
+                (omega (arith, length-members set names c.requires.quorum group members c.member_shares-members.ensures))
                 (ap (share_or_mismatch group) (ap combined (sym c.member_shares-members.ensures) ∙ sym w.in-Ok.ensures))
                 ∙ sym (ap (λ v. Ok (indexed_group_shares v.items)) w.shares-is
                 ∙ ap (λ items. Ok (indexed_group_shares items)) w.push.ensures.items
@@ -55,8 +55,8 @@ loop-group-preserved c =
       | else-not-is_empty w ↦
           let none : length members ≤ 0 = none_from_test c.is_empty.result (length members) c.is_empty.ensures w.if-not-is_empty.false in
           record {
-            combined = without_group set names c.requires group (indexed_group_shares shares) before
-                (omega (arith, length-members set names c.requires group members c.member_shares-members.ensures))
+            combined = without_group set names c.requires.quorum group (indexed_group_shares shares) before
+                (omega (arith, length-members set names c.requires.quorum group members c.member_shares-members.ensures))
                 ∙ sym (ap (λ v. Ok (indexed_group_shares v.items)) w.shares-is);
             few = omega (arith, ap (λ v. length v.items) w.shares-is, c.loop-group.invariant.few);
           }

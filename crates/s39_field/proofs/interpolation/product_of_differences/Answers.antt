@@ -11,7 +11,6 @@ use Rattle.s39_field.proofs.interpolation.product_of_differences.Goals.{then-i-e
 pub loop-i-init : goal.loop-i-init
 loop-i-init c = record {
   product_is = c.one-product.ensures ∙ ap (differences byte_field c.args.x) (sym (remove-past [] c.args.except (omega arith)));
-  element = λ h. absurd (omega arith);
   elements = λ k d h. absurd (omega arith);
 }
 
@@ -34,7 +33,6 @@ loop-i-preserved c =
             ∙ c.loop-i.invariant.product_is
             ∙ sym (differences-own byte_field byte_field_is_field x places i c.args.except place below w.if-i-except.false)
       ];
-      element = λ _. c.add-difference.ensures.self_element;
       elements = All-more (λ p. p < 256) places i place below c.loop-i.invariant.elements
           (subst (λ p. p < 256) c.index-places-i.is c.add-difference.ensures.other_element);
     }
@@ -45,6 +43,5 @@ returns c =
     let all = take_all c.loop-i.i places c.loop-i-test.false in
     record {
       product = c.from-2.ensures ∙ c.value.ensures ∙ c.loop-i.invariant.product_is ∙ ap (λ l. differences byte_field c.args.x (remove l c.args.except)) all;
-      element = c.loop-i.invariant.element (omega arith);
       elements = All-same (λ p. p < 256) places (take c.loop-i.i places) (sym all) c.loop-i.invariant.elements;
     }

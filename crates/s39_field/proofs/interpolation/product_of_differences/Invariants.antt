@@ -7,6 +7,5 @@ use Rattle.s39_field.proofs.interpolation.product_of_differences.Given as goal
 abbrev pub invariant-loop-i : goal.invariant-loop-i
 invariant-loop-i l = record {
   product_is : l.product ≡ differences byte_field l.x (remove (take l.i l.places) l.except);
-  element : 0 < l.i → l.x < 256;
   elements : All (λ place. place < 256) (take l.i l.places);
 }

@@ -5,6 +5,7 @@ use Rattle.std.proofs.lemmas.List.FromFn.{fill_by_all}
 use Rattle.s39_field.specs.FieldProduct.{byte_field, byte_modulus, product_modulo}
 use Rattle.s39_field.specs.Interpolation.{Interpolates, differences, weight, weighted_sum}
 use Rattle.s39_field.specs.Theory.Powers.{byte_field_is_field}
+use Rattle.s39_field.proofs.Differences.{remove-past}
 use Rattle.s39_field.proofs.LagrangeWeights.{denominator-nonzero, weights_interpolate}
 use Rattle.s39_field.proofs.interpolation.weights.Goals as goal
 
@@ -16,6 +17,15 @@ denominator : (xs : List ℕ) (i first result : ℕ)
     → result ≡ differences byte_field (get_or xs i 0) (remove xs i)
 denominator xs i first result read below is =
     is ∙ ap (λ x. differences byte_field x (remove xs i)) (read ∙ get_or_default xs i first 0 below)
+
+pub product_without-numerator-requires : goal.product_without-numerator-requires
+product_without-numerator-requires c =
+    let xs = c.args.xs.now in
+    record {
+      whole = c.product_of_differences-whole.ensures.product
+          ∙ ap (differences byte_field c.args.at) (remove-past xs (length xs) (omega arith));
+      within = omega arith;
+    }
 
 pub inv-requires : goal.inv-requires
 inv-requires c =
@@ -33,13 +43,13 @@ loop-i-preserved c =
     let is = denominator c.args.xs.now i c.index-xs-i.result found.result c.index-xs-i.is within found.ensures.product in
     let weight_is : c.mul.result ≡ weight byte_field c.args.xs.now c.args.at i =
     c.mul.ensures.product
-    ∙ ap₂ (product_modulo byte_modulus) c.product_of_differences-numerator.ensures.product
+    ∙ ap₂ (product_modulo byte_modulus) c.product_without-numerator.ensures
     (c.inv.ensures.inverse ∙ ap byte_field.inv is) in
     record {
       filled = below_more _ _
           (λ k h. let other : k ≢ i = omega arith in rw get_or-set_other (c.loop-i.invariant.filled k h))
           (let below : i < length out = omega arith in rw get_or-set_same weight_is);
-      elements = λ _. c.product_of_differences-numerator.ensures.elements;
+      elements = λ _. c.product_of_differences-denominator.ensures.elements;
     }
 
 pub returns : goal.returns

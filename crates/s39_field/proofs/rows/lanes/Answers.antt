@@ -1,32 +1,30 @@
-use Rattle.std.proofs.Common.{◌≡◌, ◌%◌, ◌/◌, ◌^◌, map, sym, ap, ◌∙◌, arith, pow-add}
-use Rattle.std.proofs.Math.Nat.{div-div-eq-div-mul}
+use Rattle.std.proofs.Common.{◌≡◌, ◌%◌, ◌^◌, ℕ, map, replicate, ap, ◌∙◌, arith}
 use Rattle.s39_field.specs.FieldProduct.{byte_field}
-use Rattle.s39_field.proofs.ByLane.{no_digits, not_shifted, all_digits, shifted_more, sum_more}
+use Rattle.s39_field.proofs.ByLane.{no_digits, not_shifted, all_left, all_digits, shifted_more, rest_less, sum_more}
 use Rattle.s39_field.proofs.rows.lanes.Goals as goal
 
 pub loop-init : goal.loop-init
 loop-init c = record {
   sum_is = no_digits c.args.w 16 c.args.row c.fits-row.0;
-  shifted_is = not_shifted c.args.row c.fits-row.1;
-  rest_is = c.from-rest.ensures ∙ omega arith;
+  shifted_is = ap (λ (b : ℕ). replicate 16 b) c.from-shifted.ensures ∙ not_shifted c.args.w 16 c.args.row (omega arith) c.fits-row.0;
+  rest_is = all_left c.args.row;
 }
 
 pub loop-preserved : goal.loop-preserved
 loop-preserved c =
     let w = c.args.w in
     let k = c.loop.counter in
+    let row = c.args.row in
     let before = c.loop.invariant in
     record {
-      sum_is = sum_more w k 16 c.loop.rest c.args.row c.fits-row.0 before.rest_is before.sum_is before.shifted_is;
-      shifted_is = shifted_more k c.args.row before.shifted_is c.doubled_lanes-shifted.ensures;
-      rest_is = ap (λ r. r / 2) before.rest_is ∙ div-div-eq-div-mul w (2 ^ k) 2 ∙ ap (λ n. w / n) (sym (pow-add 2 k 1));
+      sum_is = sum_more w k 16 row c.fits-row.0 before.sum_is before.shifted_is before.rest_is;
+      shifted_is = shifted_more w k row before.shifted_is c.doubled_lanes-shifted.ensures;
+      rest_is = rest_less k 16 row c.fits-row.0 before.rest_is;
     }
 
 pub returns : goal.returns
 returns c =
-    let w = c.args.w in
-    let low : byte_field.IsElement w = omega arith in
     let end : c.loop.counter ≡ 8 = omega arith in
     c.loop.invariant.sum_is
-    ∙ ap (λ k. map (λ x. byte_field.mul x (w % 2 ^ k)) c.args.row) end
-    ∙ all_digits w c.args.row low
+    ∙ ap (λ k. map (λ x. byte_field.mul c.args.w (x % 2 ^ k)) c.args.row) end
+    ∙ all_digits c.args.w c.args.row c.fits-row.1
