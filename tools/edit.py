@@ -82,7 +82,8 @@ def owner(lines: list[str], at: int) -> str:
             return line.split("trait ", 1)[1].split("<")[0].split(":")[0].split(" ")[0]
         if found := IMPL.match(line):
             of, given, name = found.groups()
-            return name + (of or "").rpartition(":")[2] + "".join(re.findall(r"\w+", given or ""))
+            parts = [name, (of or "").rpartition(":")[2], *re.findall(r"\w+", given or "")]
+            return "".join(it[:1].upper() + it[1:] for it in parts)
         if line.startswith("}"):
             return ""
     return ""

@@ -24,6 +24,10 @@ class Verdict:
         """Returns whether a function is refused only because its proof names what isn't there any more."""
         return all(NAMES.search(it) for it in self.refused[function])
 
+    def refuses(self, function: str | None) -> bool:
+        """Returns whether a function is refused for a value, in its own proof or in a lemma."""
+        return function in self.refused and (bool(self.lemmas) or not self.by_names(function))
+
 
 def is_unread(file: str, text: str) -> bool:
     """Returns whether an error says that a file of src/ or specs/ can't be read, and not that a statement is false."""
