@@ -191,6 +191,18 @@ FAULTS = [
     ("new papers that are half written are cleared at once", "page/change_plan.js", 'unfinished: "clear.changed"', 'unfinished: ""', of_page(lambda page: change.check_extendable(page, unseen))),
     ("an extendable backup is made of its secret", "page/change_plan.js", "kinds[0].extendable ? split", "false ? split", of_page(lambda page: change.check_bare(page, unseen))),
     ("a change of the plan can't be stopped", "page/change_plan.js", "await desk.askLong(\"renew\", given)", "await desk.ask(\"renew\", given)", of_page(lambda page: change.check_stop(page, unseen))),
+    ("two questions have one step", "page/wallet.js", "  setStep(step);", "  setStep(2);", of_page(lambda page: journey.check_steps(page, unseen))),
+    ("the steps of an extendable backup are counted as those of another", "page/change_plan.js", "return extendable ? 6 : STEPS_MOST", "return STEPS_MOST", of_page(lambda page: change.check_extendable(page, unseen))),
+    ("the way back stands elsewhere", "page/collect.js", "show(title, this.#back, ", "show(title, null, this.#back, ", of_page(lambda page: steps.check_first_steps(page, unseen))),
+    ("a longer screen moves the way back", "page/style.css", " scrollbar-gutter: stable;", "", of_page(lambda page: steps.check_first_steps(page, unseen))),
+    ("a result doesn't say what a quorum is", "page/drill.js", ', paragraph(say("quorum.what"), "hint"));', ");", of_page(lambda page: tasks.check_papers(page, unseen))),
+    ("words that were found can't be denied", "page/read_damaged.js", "open && fits.length ? this.#denial(isOneOfTwo) : null", "null", of_page(lambda page: entry.check_damaged(page, unseen))),
+    ("words that were denied stay", "page/read_damaged.js", '      this.#changed();\n      this.#entry.say(say("damaged.no.then")', '      this.#entry.say(say("damaged.no.then")', of_page(lambda page: entry.check_damaged(page, unseen))),
+    ("the wallet's number of words doesn't count", "page/make_backup.js", "this.#bytes = BYTES[words];", "this.#bytes = 16;", of_page(lambda page: choices.check_wallet(page, unseen))),
+    ("another version is said to have been tried", "page/wallet.js", "const { version } = desk.begun;", 'const version = "0.9";', of_page(lambda page: choices.check_wallet(page, unseen))),
+    ("a number in letters", "page/texts.js", "3 papers are at home", "Three papers are at home", lambda folder, url: sources.check(folder / "page")),
+    ("a recovery ends without what is to be done next", "page/recover.js", '    which === "other" ? null : paragraph(say("recover.next")),\n', "", of_page(lambda page: tasks.check_recover(page, unseen))),
+    ("the name of a paper isn't told where it is to be written", "page/show_paper.js", 'say("paper.how", { name })', 'say("paper.how", { name: "of the paper" })', of_page(lambda page: tasks.check_make(page, unseen))),
     ("a word that only habit decided isn't marked", "page/word_field.js", "    if (isGuessed) this.#events.guessed(this.#at);\n", "", of_page(lambda page: entry.check_guessed(page, unseen))),
 ]
 

@@ -14,12 +14,9 @@ def go_back(page, title):
     place = page.evaluate(PLACE % say("back"))
     page.push(say("back"))
     page.wait_title(title)
-    places.setdefault(page.browser.name if hasattr(page, "browser") else "webkit", place)
-    if place not in places.values():
-        raise Failed(f"the way back to {title!r} stands at {place}, and not at one of {places}")
-
-
-places = {}
+    page.place_of_back = getattr(page, "place_of_back", place)
+    if place != page.place_of_back:
+        raise Failed(f"the way back to {title!r} stands at {place}, and on other screens at {page.place_of_back}")
 
 
 def check_first_steps(page, _):

@@ -118,9 +118,14 @@ FAULTS = [
     ("Ctrl-C ends at once though papers were typed", "collect", "    if not screen.is_held:\n", "    if False:\n", lambda see: astray.check_end()),
     ("a paper at the question for more is lost", "collect", "if not typed or len(parts) > 1 or any(mark in words for _, mark in parts):", "if not typed:", lambda see: astray.check_too_few()),
     ("a line for an unreadable word is lost", "spelling", 'word = piece.lstrip("0123456789")', 'word = piece.lstrip("0123456789_")', lambda see: astray.check_line()),
-    ("another size leaves a full screen as it was", "screen", "            self._terminal.tells_size = True\n            try:\n                return draw()\n", "            try:\n                return draw()\n", lambda see: astray.check_size()),
+    ("another size leaves a full screen as it was", "screen", "            self._terminal.tells_size = True\n", "", lambda see: astray.check_size()),
     ("another size cuts a paper", "terminal", "        if self.tells_size:\n            raise Resized\n", "", lambda see: astray.check_size()),
     ("another size cuts a screen", "terminal", '            self._put("".join([CLEAR, *self._written]))', "            pass", lambda see: astray.check_size()),
+    ("another size takes a note away", "screen", "        while not is_done:\n            self._notice, self._notice_style = notice\n", "        while not is_done:\n", lambda see: change.check_ways()),
+    ("lines of a paste are answers", "screen", "            if self.is_pasted(PASTE_SECONDS) and self.drop_typed():\n                continue\n", "", lambda see: pasted.check_answers()),
+    ("the wallet's number of words doesn't count", "secret", "else drawn(size)", "else drawn(16)", lambda see: steps.check_back()),
+    ("a backup is made without a word on what a quorum is", "new", '    screen.tell(say("quorum.what"))\n', "", lambda see: steps.check_new()),
+    ("a recovery ends without what is to be done next", "recover", '    screen.tell(say("recover.next"))\n', "", tasks.check),
     ("the digits of another secret are shown", "recover", "digits = secret.hex()", "digits = secret[::-1].hex()", tasks.check),
 ]
 

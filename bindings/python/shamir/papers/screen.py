@@ -12,7 +12,7 @@ import time
 from typing import Callable, Dict, Generic, Iterable, List, Optional, Sequence, Tuple, TypeVar
 
 from shamir.papers.line import ENTER, Completer, Line, first_key, wipe
-from shamir.papers.terminal import Ended, Resized, Terminal
+from shamir.papers.terminal import PASTE_SECONDS, Ended, Resized, Terminal
 from shamir.papers.texts import said_time, say
 
 T = TypeVar("T")
@@ -207,9 +207,12 @@ class Screen:
         return text, is_cut
 
     def choose(self, prompt: str, answers: Dict[str, T], default: Optional[str] = None, has_back: bool = False, is_hidden: bool = False) -> T:
-        """Asks until one of the answers is given, or none if there is a default. A hidden answer doesn't show."""
+        """Asks until one of the answers is given, or none if there is a default. A hidden answer doesn't show. The first line of a paste is no
+        answer, and the paste is dropped as a whole."""
         while True:
             typed = self.ask(prompt, has_back=has_back, is_hidden=is_hidden).strip().lower() or default or ""
+            if self.is_pasted(PASTE_SECONDS) and self.drop_typed():
+                continue
             if typed in answers:
                 return answers[typed]
             told = [key or "Enter" for key in answers] + [BACK] * has_back
@@ -220,12 +223,16 @@ class Screen:
         how = say("screen.yes.back" if has_back else "screen.yes")
         return self.choose(f"{prompt} {how}", {"y": True, "yes": True, "n": False, "no": False}, has_back=has_back, is_hidden=is_hidden)
 
-    def redrawn(self, draw: Callable[[], T]) -> T:
-        """Returns what a call gives that shows a screen. If the terminal gets another size before that, it is called again."""
-        while True:
+    def show_until(self, draw: Callable[[], bool]) -> None:
+        """Calls what shows a screen until it returns that the owner goes on, and again if the terminal gets another size. What was to be
+        shown after the title is shown each time."""
+        notice = self._notice, self._notice_style
+        is_done = False
+        while not is_done:
+            self._notice, self._notice_style = notice
             self._terminal.tells_size = True
             try:
-                return draw()
+                is_done = draw()
             except Resized:
                 continue
             finally:
@@ -253,13 +260,16 @@ class Screen:
         if is_dropped:
             self.tell_seen(say("screen.dropped"))
 
-    def drop_typed(self) -> None:
-        """Drops what was typed and not read, such as the rest of a paste that the owner doesn't see, and says so."""
+    def drop_typed(self) -> bool:
+        """Drops what was typed and not read, such as the rest of a paste that the owner doesn't see, and says so. Returns whether there was
+        something."""
         is_dropped = bool(self._begun.strip())
         wipe(self._begun)
         self._begun = bytearray()
-        if self._terminal.drop_typed() or is_dropped:
+        is_dropped = self._terminal.drop_typed() or is_dropped
+        if is_dropped:
             self.tell_seen(say("screen.dropped"))
+        return is_dropped
 
     def work(self, call: Callable[[], T], progress: Callable[[], str] = lambda: "", is_stoppable: bool = False) -> T:
         """Returns what a call of the library gives, or raises its error. Meanwhile the screen shows the time that has passed.
