@@ -71,7 +71,9 @@ class Telling {
 
   show() {
     const back = button(say("back"), () => leaveEntry(this.#entry, () => this.#onEnd()), BACK);
-    show(say("what.title"), back, paragraph(say("what.intro")), this.#entry.element, this.#found);
+    // What is found stands above the fields, so that it is in sight on a phone, too.
+    this.#entry.below.append(this.#found);
+    show(say("what.title"), back, paragraph(say("what.intro")), this.#entry.element);
     this.#entry.focus();
   }
 

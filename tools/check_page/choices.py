@@ -48,7 +48,7 @@ def check_wallet(page, see):
     page.wait_title(say("make.wallet"))
     page.push(say("continue"))
     page.wait_text(say("wallet.missing"))
-    page.wait_text(f"shamir {VERSION} was tried")
+    page.wait_text(f"only shamir {VERSION} was tried")
     see("which wallet")
     page.push(say("back"))
     page.wait_title(say("make.plan"))
@@ -282,6 +282,12 @@ def check_what(page, see):
         if line == THREE_GROUPS[2]:
             see("what a paper is")
     check_green(page, [])
+    page.size(*PHONE)
+    paste(page, THREE_GROUPS[2])
+    page.wait(lambda: set(said_kind(THREE_GROUPS[2])) <= set(told_of(page)), "what a paper is, on a phone")
+    page.wait(lambda: page.evaluate(IN_SIGHT % "document.querySelector('.told')"), "what a paper is in sight of its fields")
+    see("phone what a paper is")
+    page.size(1200, 900)
     paste(page, BAD_CHECKSUM)
     page.wait_text(said(18, first=20))
     if page.evaluate("document.querySelectorAll('.told li').length"):

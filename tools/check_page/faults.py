@@ -200,8 +200,9 @@ FAULTS = [
     ("words that were denied stay", "page/read_damaged.js", '      this.#changed();\n      this.#entry.say(say("damaged.no.then")', '      this.#entry.say(say("damaged.no.then")', of_page(lambda page: entry.check_damaged(page, unseen))),
     ("the wallet's number of words doesn't count", "page/make_backup.js", "this.#bytes = BYTES[words];", "this.#bytes = 16;", of_page(lambda page: choices.check_wallet(page, unseen))),
     ("another version is said to have been tried", "page/wallet.js", "const { version } = desk.begun;", 'const version = "0.9";', of_page(lambda page: choices.check_wallet(page, unseen))),
+    ("what a paper is stands out of sight", "page/tell_paper.js", "this.#entry.below.append(this.#found);", "this.#entry.element.append(this.#found);", of_page(lambda page: choices.check_what(page, unseen))),
     ("a number in letters", "page/texts.js", "3 papers are at home", "Three papers are at home", lambda folder, url: sources.check(folder / "page")),
-    ("a recovery ends without what is to be done next", "page/recover.js", '    which === "other" ? null : paragraph(say("recover.next")),\n', "", of_page(lambda page: tasks.check_recover(page, unseen))),
+    ("a recovery ends without what is to be done next", "page/recover.js", '    ...(which === "other" ? [] : [element("h2", {}, say("recover.next.title")), paragraph(say("recover.next"))]),\n', "", of_page(lambda page: tasks.check_recover(page, unseen))),
     ("the name of a paper isn't told where it is to be written", "page/show_paper.js", 'say("paper.how", { name })', 'say("paper.how", { name: "of the paper" })', of_page(lambda page: tasks.check_make(page, unseen))),
     ("a word that only habit decided isn't marked", "page/word_field.js", "    if (isGuessed) this.#events.guessed(this.#at);\n", "", of_page(lambda page: entry.check_guessed(page, unseen))),
 ]

@@ -62,7 +62,7 @@ FAULTS = [
     ("a backup that is made is called unfinished", "new", '        desk.written = "made"\n', "", lambda see: ends.check_written()),
     ("a paper isn't shown again while it is typed back", "entry", "            if not text.strip() and self._show is not None:", "            if False:", lambda see: slips.check_written_wrongly()),
     ("typing back asks for question marks", "shown", 'Entry(screen, len(paper.words), "back", show_again)', 'Entry(screen, len(paper.words), "", show_again)', lambda see: slips.check_written_wrongly()),
-    ("words that are typed too early clear a paper", "shown", "        return screen.pause(", "        return True or screen.pause(", lambda see: slips.check_written_wrongly()),
+    ("words that are typed too early clear a paper", "shown", "        return is_alone\n", "        return True\n", lambda see: slips.check_written_wrongly()),
     ("long words that have no place are lost", "entry", 'begun = f"{text.rstrip()} " if len(text.split()) > SHORT else ""', 'begun = ""', lambda see: refusals.check_words()),
     ("a refused answer stays in the line", "entry", "if len(text.split()) > SHORT", "if text.split()", lambda see: refusals.check_words()),
     ("the sign behind a refused line is a word of it", "entry", "or (begun and text.split()[-1:] == [DROP])", "", lambda see: refusals.check_checksum()),
@@ -71,7 +71,7 @@ FAULTS = [
     ("pasted papers that are wrong are forgotten", "judged", "            judged.faults.append((begin(text), why))\n", "            pass\n", lambda see: pasted.check_misspelt()),
     ("pasted papers that are wrong can't be mended", "judged", "judged.left += [text] if len(words) >= BEGUN_LEAST else []", "pass", lambda see: pasted.check_misspelt()),
     ("pasted papers that aren't asked for are dropped without a word", "entry", 'self._screen.tell_seen(say("paste.only", papers=counted(len(texts), "paper")))', "pass", lambda see: pasted.check_elsewhere()),
-    ("what is typed ahead is dropped without a word", "screen", "        if self._terminal.drop_typed() or is_dropped:", "        self._terminal.drop_typed()\n        if False:", lambda see: pasted.check_dropped()),
+    ("what is typed ahead is dropped without a word", "screen", '            self.tell_seen(say("screen.dropped"))\n        return is_dropped', "            pass\n        return is_dropped", lambda see: pasted.check_dropped()),
     ("what isn't taken is told where nobody sees it", "screen", "        for told in self._unseen if title else []:\n            self.tell(*told)\n", "", lambda see: pasted.check_back()),
     ("Enter stops a drill at once", "screen", 'if self.agree(say("work.sure")) and', "if True and", lambda see: ends.check_stopped_drill()),
     ("an Enter too many ends", "check", 'for it in ("ep" if', 'for it in ("", *"ep" if', lambda see: refusals.check_passphrases()),
@@ -125,7 +125,7 @@ FAULTS = [
     ("lines of a paste are answers", "screen", "            if self.is_pasted(PASTE_SECONDS) and self.drop_typed():\n                continue\n", "", lambda see: pasted.check_answers()),
     ("the wallet's number of words doesn't count", "secret", "else drawn(size)", "else drawn(16)", lambda see: steps.check_back()),
     ("a backup is made without a word on what a quorum is", "new", '    screen.tell(say("quorum.what"))\n', "", lambda see: steps.check_new()),
-    ("a recovery ends without what is to be done next", "recover", '    screen.tell(say("recover.next"))\n', "", tasks.check),
+    ("a recovery ends without what is to be done next", "recover", '    screen.tell(f"{say(\'recover.next.title\')}: {say(\'recover.next\')}")\n', "", tasks.check),
     ("the digits of another secret are shown", "recover", "digits = secret.hex()", "digits = secret[::-1].hex()", tasks.check),
 ]
 
