@@ -320,6 +320,8 @@ ONE_LINE = """
   return places.length === 3 && Math.max(...ends) - Math.min(...ends) < 8 && places.every(({ height }) => height < 60);
 })()
 """
+# Whether the buttons that take papers out stand in the rows of these papers, and aren't below their names.
+BESIDE = "[...document.querySelectorAll('.found .rows li')].every((it) => it.getBoundingClientRect().height < 2 * it.querySelector('button').getBoundingClientRect().height)"
 PHONE = (390, 844)
 # Returns the texts that reach beyond their boxes.
 CUT = """
@@ -357,6 +359,8 @@ def check_phone(page, see):
         if line == SOUND_PAPER:
             if not page.evaluate(IN_SIGHT % "document.querySelector('#main button.primary')"):
                 raise Failed("the button that goes on with papers that are enough is out of sight")
+            if not page.evaluate(BESIDE):
+                raise Failed("the button that takes a paper out doesn't stand beside its name")
             page.go_to("button", say("collect.drop", name="0.0"))
             page.evaluate("document.querySelector('.entry .read').focus({ preventScroll: true }); null")
             page.press("Enter")
@@ -372,6 +376,9 @@ def check_phone(page, see):
     see("phone shown paper")
     if page.evaluate(COLUMNS % ".paper li") != "down 2 columns, all shown":
         raise Failed(f"the words of a shown paper run {page.evaluate(COLUMNS % '.paper li')}")
+    beyond = page.evaluate("document.documentElement.scrollHeight - innerHeight")
+    if beyond > 0:
+        raise Failed(f"the screen of a paper is {beyond} pixels higher than a phone, so it scrolls a little")
     page.push(say("clear"))
     page.push(say("clear.yes"))
     page.wait_title(say("home.title"))
