@@ -207,14 +207,14 @@ class Screen:
         return text, is_cut
 
     def choose(self, prompt: str, answers: Dict[str, T], default: Optional[str] = None, has_back: bool = False, is_hidden: bool = False) -> T:
-        """Asks until one of the answers is given, or none if there is a default. A hidden answer doesn't show. The first line of a paste is no
-        answer, and the paste is dropped as a whole."""
+        """Asks until one of the answers is given, or none if there is a default. A hidden answer doesn't show. If a paste comes in place of an
+        answer, it is dropped as a whole, and not taken line by line."""
         while True:
             typed = self.ask(prompt, has_back=has_back, is_hidden=is_hidden).strip().lower() or default or ""
-            if self.is_pasted(PASTE_SECONDS) and self.drop_typed():
-                continue
             if typed in answers:
                 return answers[typed]
+            if self.is_pasted(PASTE_SECONDS):
+                self.drop_typed()
             told = [key or "Enter" for key in answers] + [BACK] * has_back
             self.tell(say("screen.answers", answers=", ".join(told)), "bad")
 
@@ -260,16 +260,13 @@ class Screen:
         if is_dropped:
             self.tell_seen(say("screen.dropped"))
 
-    def drop_typed(self) -> bool:
-        """Drops what was typed and not read, such as the rest of a paste that the owner doesn't see, and says so. Returns whether there was
-        something."""
+    def drop_typed(self) -> None:
+        """Drops what was typed and not read, such as the rest of a paste that the owner doesn't see, and says so."""
         is_dropped = bool(self._begun.strip())
         wipe(self._begun)
         self._begun = bytearray()
-        is_dropped = self._terminal.drop_typed() or is_dropped
-        if is_dropped:
+        if self._terminal.drop_typed() or is_dropped:
             self.tell_seen(say("screen.dropped"))
-        return is_dropped
 
     def work(self, call: Callable[[], T], progress: Callable[[], str] = lambda: "", is_stoppable: bool = False) -> T:
         """Returns what a call of the library gives, or raises its error. Meanwhile the screen shows the time that has passed.
