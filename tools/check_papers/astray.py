@@ -242,7 +242,7 @@ def check_without():
         owner.answer(say("noted.done"), "")
         owner.prove(owner.noted(), "")
         owner.wait(say("screen.end"))
-        owner.expect("A quorum is a set of papers that is just enough.")
+        owner.expect(say("quorum.what"))
         owner.expect("This backup has no passphrase.")
         owner.expect("This paper alone recovers the secret, so keep it where nobody finds it.")
         silent(owner, "if there is one, in another place")
