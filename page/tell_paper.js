@@ -73,6 +73,7 @@ class Telling {
     const back = button(say("back"), () => leaveEntry(this.#entry, () => this.#onEnd()), BACK);
     // What is found stands above the fields, so that it is in sight on a phone, too.
     this.#entry.below.append(this.#found);
+    this.#entry.onMissing = () => this.#found.replaceChildren();
     show(say("what.title"), back, paragraph(say("what.intro")), this.#entry.element);
     this.#entry.focus();
   }

@@ -293,8 +293,12 @@ def check_what(page, see):
     if page.evaluate("document.querySelectorAll('.told li').length"):
         raise Failed("what was said of another paper stays")
     page.push(say("entry.empty"))
+    paste(page, THREE_GROUPS[2])
+    page.wait(lambda: told_of(page) != [""], "what a paper is, before a phrase of BIP-39")
     paste(page, BIP39)
     page.wait_text(say("entry.bip39", count=12))
+    if page.evaluate("document.querySelectorAll('.told li').length"):
+        raise Failed("what was said of another paper stays beside a phrase of BIP-39")
     see("a phrase of BIP-39")
     page.push(say("clear"))
     page.wait_title(say("home.title"))

@@ -203,6 +203,7 @@ FAULTS = [
     ("what a paper is stands out of sight", "page/tell_paper.js", "this.#entry.below.append(this.#found);", "this.#entry.element.append(this.#found);", of_page(lambda page: choices.check_what(page, unseen))),
     ("a screen scrolls a little", "page/style.css", "main { padding-bottom: 1.5rem; }", "main { padding-bottom: 4rem; }", of_page(lambda page: choices.check_phone(page, unseen))),
     ("the button of a paper wraps", "page/style.css", ".rows li { display: flex;", ".rows li { display: flex; flex-wrap: wrap; ", of_page(lambda page: choices.check_phone(page, unseen))),
+    ("what was said of another paper stays beside a phrase of BIP-39", "page/tell_paper.js", "    this.#entry.onMissing = () => this.#found.replaceChildren();\n", "", of_page(lambda page: choices.check_what(page, unseen))),
     ("a number in letters", "page/texts.js", "3 papers are at home", "Three papers are at home", lambda folder, url: sources.check(folder / "page")),
     ("a recovery ends without what is to be done next", "page/recover.js", '    ...(which === "other" ? [] : [element("h2", {}, say("recover.next.title")), paragraph(say("recover.next"))]),\n', "", of_page(lambda page: tasks.check_recover(page, unseen))),
     ("the name of a paper isn't told where it is to be written", "page/show_paper.js", 'say("paper.how", { name })', 'say("paper.how", { name: "of the paper" })', of_page(lambda page: tasks.check_make(page, unseen))),
