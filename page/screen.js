@@ -141,8 +141,8 @@ export function ask(title, children, answers, after = []) {
         kind,
       ),
     );
-    const [ways, [back = null]] = [buttons.filter((it) => it.className !== BACK), buttons.filter((it) => it.className === BACK)];
-    show(title, back, ...children, fault, element("div", { class: "buttons" }, ...ways), ...after);
+    const back = buttons.find((it) => it.className === BACK) ?? null;
+    show(title, back, ...children, fault, element("div", { class: "buttons" }, ...buttons.filter((it) => it !== back)), ...after);
     goOnByEnter(buttons.find((it) => it.classList.contains("primary")));
   });
 }
