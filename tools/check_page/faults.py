@@ -81,7 +81,7 @@ FAULTS = [
     ("a paper that was taken out is still called sound", "page/collect.js", 'this.#entry.say(say("collect.dropped", { name }));', "", of_page(lambda page: refusals.check_words(page, unseen))),
     ("Enter and Tab end the next word", "page/word_field.js", "if (isEnding && arrived === this", "if (false && arrived === this", of_page(lambda page: entry.check_keys(page, unseen))),
     ("another try empties the fingerprint", "page/passphrase.js", 'field.value = noted ?? "";', 'field.value = "";', of_page(lambda page: tasks.check_papers(page, unseen))),
-    ("a refusal chooses another secret", "page/make_backup.js", "new SecretFields(chosen)", 'new SecretFields({ ...chosen, source: "new16" })', of_page(lambda page: steps.check_chosen(page, unseen))),
+    ("a refusal chooses another secret", "page/make_backup.js", "new SecretFields(chosen)", 'new SecretFields({ ...chosen, source: "new" })', of_page(lambda page: steps.check_chosen(page, unseen))),
     ("digits aren't compared with the noted fingerprint", "page/judge.js", 'fault: noted !== "" && noted !== fingerprint ? "other" : ""', 'fault: ""', of_page(lambda page: refusals.check_values(page, unseen))),
     ("digits are typed once", "page/make_backup.js", 'return typed === again ? this.#noted.missing() : say("secret.differ");', "return this.#noted.missing();", of_page(lambda page: refusals.check_values(page, unseen))),
     ("without a noted fingerprint, no fault is found", "page/check_papers.js", 'const good = !isNoted ? "same" : left', "const good = left", of_page(lambda page: tasks.check_replace(page, unseen))),

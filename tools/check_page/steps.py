@@ -190,12 +190,16 @@ def check_chosen(page, see):
     page.go_to("spinbutton", say("more.exponent"))
     page.evaluate("document.activeElement.select()")
     page.type("3")
+    page.choose(say("secret.own"))
     go_back(page, say("make.wallet"))
     go_back(page, say("make.plan"))
     for answer, title in [("continue", "plan.sure.title"), ("plan.sure.yes", "make.wallet"), ("continue", "make.secret")]:
         page.push(say(answer))
         page.wait_title(say(title))
+    if not page.is_true("(it) => it.getAttribute('aria-checked') === 'true'", page.node("radio", say("secret.own"))):
+        raise Failed("on the way back, another secret is chosen")
     see("what was chosen stays")
+    page.choose(say("secret.new"))
     page.tick(say("passphrase.none"))
     create(page)
     page.wait_title(say("paper.title", name="0.0"))
