@@ -1,5 +1,5 @@
 // The task 'Print blank forms': sheets to write papers on.
-import { choice, paragraph, tick } from "./dom.js";
+import { BACK, choice, paragraph, tick } from "./dom.js";
 import { clearForms, printForms } from "./forms.js";
 import { USUAL_WORDS } from "./paper_entry.js";
 import { planNames } from "./plan.js";
@@ -26,10 +26,10 @@ export async function blankForms(desk) {
   for (;;) {
     const answer = await ask(say("blank.title"), [fault ? paragraph(fault, "fault") : null, ...children], [
       { key: "print", label: say("blank.print"), kind: "primary" },
-      { key: "end", label: say("end") },
+      { key: "back", label: say("back"), kind: BACK },
     ]);
     clearForms();
-    if (answer === "end") return;
+    if (answer === "back") return;
     fault = await planFault(desk, plan.plan);
     if (fault !== "") continue;
     printForms(plan.plan, named.field.checked ? planNames(plan.plan) : [""], count);

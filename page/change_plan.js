@@ -17,8 +17,10 @@ import { askWallet } from "./wallet.js";
 /** @typedef {import("./desk.js").Kind} Kind */
 /** @typedef {import("./drill.js").Verdict} Verdict */
 /** @typedef {import("./plan.js").Plan} Plan */
-/** @typedef {{planned: PlanChoice, wallet: import("./wallet.js").Wallet | null}} Chosen what was chosen, also on the way back */
+/** @typedef {import("./wallet.js").Asked & {planned: PlanChoice}} Chosen what was chosen, also on the way back */
 /** @typedef {{plan: Plan, kind: Kind, words: number}} Made the plan of the new papers, what the old papers are, and how many words each new one has */
+
+const STEPS_MOST = 8;
 
 /**
  * Changes the plan.
@@ -26,11 +28,20 @@ import { askWallet } from "./wallet.js";
  * @param {Desk} desk
  */
 export async function changePlan(desk) {
-  setSteps(6);
   const made = await makeAnew(desk);
   if (made === null) return;
-  await writeAll(desk, made.plan, made.words, { title: say("change.forms"), first: say("change.mark"), unfinished: "clear.changed", steps: [3, 4] });
+  const { plan, words, kind } = made;
+  await writeAll(desk, plan, words, { title: say("change.forms"), first: say("change.mark"), unfinished: "clear.changed", step: stepsOf(kind) - 3 });
   await drillAndEnd(desk, made);
+}
+
+/**
+ * Returns how many steps the task has. What isn't extendable also takes a wallet and a passphrase before there are new papers.
+ *
+ * @param {Kind} kind
+ */
+function stepsOf({ extendable }) {
+  return extendable ? 6 : STEPS_MOST;
 }
 
 /**
@@ -41,12 +52,13 @@ export async function changePlan(desk) {
  */
 async function makeAnew(desk) {
   /** @type {Chosen} */
-  const chosen = { planned: new PlanChoice(), wallet: null };
+  const chosen = { planned: new PlanChoice(), wallet: null, words: 0 };
   for (;;) {
-    setStep(1);
+    setSteps(STEPS_MOST, true);
     const found = await collectPapers(desk, { title: say("change.title"), intro: say("change.intro") });
     if (found === null) return null;
     const { status, kinds } = found;
+    if (status.enough) setSteps(stepsOf(kinds[0]));
     const tooFew = async () => askForMore(say("recover.few"), [paragraph(say("recover.too_few"), "bad"), await saidLeftOut(desk)], status, kinds);
     const make = () => (kinds[0].extendable ? split(desk, chosen) : renew(desk, chosen, kinds[0]));
     const answer = status.enough ? await make() : await tooFew();
@@ -84,7 +96,7 @@ async function split(desk, { planned }) {
 async function renew(desk, chosen, kind) {
   const { planned } = chosen;
   while (await askPlan(desk, planned, { title: say("change.plan"), step: 2 })) {
-    while (await askWallet(chosen, say("change.wallet"))) {
+    while (await askWallet(desk, chosen, { title: say("change.wallet"), step: 3 })) {
       const words = await renewWith(desk, { plan: planText(planned.plan), extendable: chosen.wallet === "flag" }, kind);
       if (words) return words;
     }
@@ -105,9 +117,10 @@ async function renewWith(desk, made, kind) {
   let fault = "";
   /** @type {string | null} */
   let noted = null;
+  setStep(4);
   for (;;) {
     /** @type {string | null} */
-    const given = await askPassphrase(desk, { title: say("change.passphrase"), why: say("change.passphrase.why"), back: say("back"), fault, noted });
+    const given = await askPassphrase(desk, { title: say("change.passphrase"), why: say("change.passphrase.why"), fault, noted });
     if (given === null) return 0;
     noted = given;
     const found = await renewed(desk, kind, { ...made, noted });
@@ -151,12 +164,12 @@ async function drillAndEnd(desk, made) {
   /** @type {string | null} */
   let noted = null;
   for (;;) {
-    setStep(5);
+    setStep(stepsOf(made.kind) - 1);
     /** @type {string | null} */
     const given = await askPassphrase(desk, { ...what, fault, noted });
     if (given === null) await desk.ask("passphrase", { passphrase: new Uint8Array() });
     noted = given ?? "";
-    setStep(6);
+    setStep(stepsOf(made.kind));
     const { answer, told } = await drillBeside(desk, made, given);
     if (answer === "end") return;
     fault = told;
@@ -223,10 +236,10 @@ function tellDone(verdict, { plan, kind: { extendable } }, given) {
  * @param {boolean} [mayRetry] whether another passphrase may show it
  * @returns {Promise<{answer: "end" | "again", told: string}>}
  */
-async function tellUnlike({ result, sentences, table }, next, mayRetry = false) {
-  if (result === "stopped") return { answer: "again", told: say("change.stopped") };
+async function tellUnlike(verdict, next, mayRetry = false) {
+  if (verdict.result === "stopped") return { answer: "again", told: say("change.stopped") };
   const again = { key: /** @type {const} */ ("again"), label: say("proof.again"), kind: "primary" };
-  const told = [...sentences.map((text) => paragraph(text, "bad")), paragraph(next), table];
+  const told = [toldVerdict(verdict), paragraph(next), verdict.table];
   const answer = await ask(say("change.unproved"), told, [...(mayRetry ? [again] : []), { key: /** @type {const} */ ("end"), label: say("end") }]);
   return { answer, told: "" };
 }

@@ -1,5 +1,5 @@
 // The screen on which papers are typed, one after the other.
-import { button, element, paragraph } from "./dom.js";
+import { BACK, button, element, paragraph } from "./dom.js";
 import { leaveEntry, PaperEntry, USUAL_WORDS } from "./paper_entry.js";
 import { picture, saidWhole } from "./picture.js";
 import { saidForeign, wordsToLookAt } from "./refusals.js";
@@ -74,9 +74,9 @@ class Collection {
   #fault = element("p", { class: "fault", role: "alert" });
   // What is asked if words were typed and not read.
   #question = element("div", { class: "buttons" });
-  #back = button(say("back"), () => leaveEntry(this.#entry, () => this.#onEnd(null)));
+  #back = button(say("back"), () => leaveEntry(this.#entry, () => this.#onEnd(null)), BACK);
   #ended = button(say("collect.end"), () => this.#end(), "primary");
-  #buttons = element("div", { class: "buttons" }, this.#ended, this.#back);
+  #buttons = element("div", { class: "buttons" }, this.#ended);
   #entry;
 
   /**
@@ -101,7 +101,7 @@ class Collection {
   show(title, intro) {
     // A paper is read by itself after its last word.
     this.#entry.isLeading = false;
-    show(title, paragraph(intro), this.#undo, this.#entry.element, this.#found, this.#fault, this.#question, this.#buttons);
+    show(title, this.#back, paragraph(intro), this.#undo, this.#entry.element, this.#found, this.#fault, this.#question, this.#buttons);
     this.#draw();
     this.#entry.focus();
   }

@@ -51,6 +51,9 @@ export function button(label, onPress, kind = "") {
   return element("button", { type: "button", class: kind, click: pressed(onPress) }, label);
 }
 
+/** The kind of the button that goes back. */
+export const BACK = "back";
+
 const CONCEALED = "concealed";
 
 /**

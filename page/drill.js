@@ -1,7 +1,7 @@
 // The drill: each quorum of the papers that were typed, in a table that fills, and what they say together.
 import { Code, OF_GROUPS } from "../bindings/js/refusal.js";
 import { Declined, Stopped } from "./client.js";
-import { button, element, paragraph } from "./dom.js";
+import { BACK, button, element, paragraph } from "./dom.js";
 import { estimated } from "./estimate.js";
 import { COUNTED_MOST, fingerprints, isRight, quorumWith, suspects, TRIED_FIRST, TRIED_WHOLE } from "./quorums.js";
 import { counted, say, saidTime } from "./say.js";
@@ -60,7 +60,7 @@ export async function askToDrill(desk, counts, kind, { title, hasBack }) {
   const intro = [paragraph(say("drill.what")), ...counts];
   const slow = warnedTime(desk, kind);
   if (slow) intro.push(paragraph(slow, "note"));
-  const back = hasBack ? [{ key: "back", label: say("back") }] : [];
+  const back = hasBack ? [{ key: "back", label: say("back"), kind: BACK }] : [];
   return (await ask(title, intro, [{ key: "go", label: say("drill.start"), kind: "primary" }, ...back])) === "go";
 }
 
@@ -152,7 +152,7 @@ class Table {
     this.#scroll.append(element("table", {}, element("thead", {}, head), this.#body));
     this.#first = estimated(seconds);
     const stop = element("div", { class: "buttons" }, button(say("stop"), onStop));
-    show(title, this.#progress, this.#bar, this.#first, stop, this.#scroll, this.#more);
+    show(title, null, this.#progress, this.#bar, this.#first, stop, this.#scroll, this.#more);
     this.#say();
   }
 
@@ -225,13 +225,13 @@ class Table {
 }
 
 /**
- * Returns what says what a drill found.
+ * Returns what says what a drill found, and what a quorum is.
  *
- * @param {Verdict} verdict
+ * @param {Pick<Verdict, "result" | "sentences" | "isEqual">} verdict
  */
 export function toldVerdict({ result, sentences, isEqual }) {
   const kind = result !== "good" ? "bad" : isEqual ? "good" : "note";
-  return element("div", { class: "verdict" }, ...sentences.map((text) => paragraph(text, kind)));
+  return element("div", { class: "verdict" }, ...sentences.map((text) => paragraph(text, kind)), paragraph(say("quorum.what"), "hint"));
 }
 
 /**

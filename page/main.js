@@ -3,7 +3,7 @@ import { blankForms } from "./blank_forms.js";
 import { changePlan } from "./change_plan.js";
 import { checkPapers } from "./check_papers.js";
 import { Desk } from "./client.js";
-import { button, element, large, paragraph } from "./dom.js";
+import { BACK, button, element, large, paragraph } from "./dom.js";
 import { help } from "./help.js";
 import { makeBackup } from "./make_backup.js";
 import { readDamaged } from "./read_damaged.js";
@@ -55,6 +55,7 @@ function home(tried, news = []) {
   const choices = TASKS.map((task) => large(say(`home.${task.key}`), say(`home.${task.key}.hint`), () => begin(task, tried), { class: "task" }));
   show(
     say("home.title"),
+    null,
     ...news.map((text) => paragraph(text, "note")),
     paragraph(say("home.intro")),
     element("div", { class: "tasks" }, ...choices),
@@ -82,12 +83,12 @@ async function prepare() {
   const first = await ask(say("prepare.title"), intro, [
     { key: "ready", label: say("prepare.ready"), kind: "primary" },
     { key: "anyway", label: say("prepare.anyway") },
-    { key: "back", label: say("back") },
+    { key: "back", label: say("back"), kind: BACK },
   ]);
   if (first === "back") return false;
   if (first === "ready" && !navigator.onLine) return true;
   const second = await ask(say("prepare.sure.title"), [paragraph(say(first === "ready" ? "prepare.still_online" : "prepare.sure"), "bad")], [
-    { key: "back", label: say("back"), kind: "primary" },
+    { key: "no", label: say("prepare.no"), kind: "primary" },
     { key: "yes", label: say("prepare.yes") },
   ]);
   return second === "yes";
@@ -177,7 +178,7 @@ function lacking() {
  * @param {string} why
  */
 function refuse(why) {
-  show(say("lacks.title"), paragraph(why, "bad"), paragraph(say("lacks.what")));
+  show(say("lacks.title"), null, paragraph(why, "bad"), paragraph(say("lacks.what")));
 }
 
 /**

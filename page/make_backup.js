@@ -2,7 +2,7 @@
 import { bytesOf, typedDigits, zero } from "./bytes.js";
 import { Declined, Stopped } from "./client.js";
 import { THROWS_LEAST } from "./dice.js";
-import { choice, element, hidden, labelled, paragraph } from "./dom.js";
+import { BACK, choice, element, hidden, labelled, paragraph } from "./dom.js";
 import { LONG_EXPONENT, toldVerdict } from "./drill.js";
 import { noteAndDrill } from "./note_and_drill.js";
 import { notedFields, passphraseFields } from "./passphrase.js";
@@ -17,19 +17,23 @@ import { askWallet } from "./wallet.js";
 /** @typedef {import("./client.js").Desk} Desk */
 /** @typedef {import("./plan.js").Plan} Plan */
 /** @typedef {import("./desk.js").Kind} Kind */
-/** @typedef {"new16" | "new32" | "own"} Source */
+/** @typedef {"new" | "own"} Source */
 /** @typedef {{bytes: number, digits: Uint8Array | null, noted: string}} Secret */
 /** @typedef {{secret: Secret, dice: Uint8Array, passphrase: Uint8Array}} Typed */
-/** @typedef {import("./wallet.js").Wallet} Wallet */
-/** @typedef {{source: Source, noted: string | null, exponent: number, wallet: Wallet | null}} Chosen what was chosen and isn't secret */
+/** @typedef {import("./wallet.js").Asked & {source: Source, noted: string | null, exponent: number}} Chosen what was chosen and isn't secret */
 
-const BYTES = { new16: 16, new32: 32, own: 0 };
+/**
+ * How many bytes a new secret has, by the number of words on each paper.
+ *
+ * @type {Record<number, number>}
+ */
+const BYTES = { 20: 16, 33: 32 };
 /**
  * A new backup has the exponent that the reference implementation gives it.
  *
  * @type {Chosen}
  */
-const USUAL = { source: "new16", noted: null, exponent: 1, wallet: null };
+const USUAL = { source: "new", noted: null, exponent: 1, wallet: null, words: 20 };
 
 /**
  * Makes a backup.
@@ -37,11 +41,11 @@ const USUAL = { source: "new16", noted: null, exponent: 1, wallet: null };
  * @param {Desk} desk
  */
 export async function makeBackup(desk) {
-  setSteps(7);
+  setSteps(8);
   const made = await planAndCreate(desk);
   if (made === null) return;
   const { plan, isOwn, words } = made;
-  await writeAll(desk, plan, words, { title: say("make.forms"), unfinished: "clear.unfinished", steps: [4, 5] });
+  await writeAll(desk, plan, words, { title: say("make.forms"), unfinished: "clear.unfinished", step: 4 });
   await noteAndEnd(desk, plan, isOwn);
 }
 
@@ -53,7 +57,7 @@ export async function makeBackup(desk) {
 async function planAndCreate(desk) {
   const [planned, chosen] = [new PlanChoice(), { ...USUAL }];
   while (await askPlan(desk, planned, { title: say("make.plan"), step: 1 })) {
-    while (await askWallet(chosen, say("make.wallet"))) {
+    while (await askWallet(desk, chosen, { title: say("make.wallet"), step: 2, asksWords: true })) {
       const words = await create(desk, planned.plan, chosen);
       if (words !== null) return { plan: planned.plan, isOwn: chosen.source === "own", words };
     }
@@ -69,12 +73,15 @@ class SecretFields {
   #digits = hidden(say("secret.digits"), { show: say("show"), hide: say("hide"), hint: say("secret.digits.hint") });
   #again = hidden(say("secret.again"), { show: say("show"), hide: say("hide") });
   #noted;
+  #bytes;
 
   /** @param {Chosen} first what is chosen at first */
-  constructor({ source, noted }) {
+  constructor({ source, noted, words }) {
     this.source = source;
     this.#noted = notedFields(noted);
-    const options = /** @type {const} */ (["new16", "new32", "own"]).map((key) => ({ key, label: say(`secret.${key}`), hint: say(`secret.${key}.hint`) }));
+    this.#bytes = BYTES[words];
+    const values = { words, bytes: this.#bytes };
+    const options = /** @type {const} */ (["new", "own"]).map((key) => ({ key, label: say(`secret.${key}`), hint: say(`secret.${key}.hint`, values) }));
     const own = element("div", { hidden: source !== "own" }, this.#digits.box, this.#again.box, paragraph(say("secret.noted"), "hint"), this.#noted.box);
     const pick = (/** @type {Source} */ key) => {
       this.source = key;
@@ -115,13 +122,13 @@ class SecretFields {
 
   /** How many bytes the secret has. */
   get secretBytes() {
-    return BYTES[this.source] || typedDigits(this.#digits.field.value).length / 2;
+    return this.source === "new" ? this.#bytes : typedDigits(this.#digits.field.value).length / 2;
   }
 
   /** @returns {Secret} */
   read() {
     const digits = this.source === "own" ? bytesOf(typedDigits(this.#digits.field.value)) : null;
-    return { bytes: BYTES[this.source], digits, noted: digits ? this.#noted.read() : "" };
+    return { bytes: this.#bytes, digits, noted: digits ? this.#noted.read() : "" };
   }
 }
 
@@ -219,7 +226,7 @@ async function create(desk, plan, chosen) {
     const asked = [element("h2", {}, say("passphrase.heading")), paragraph(say("passphrase.new")), passphrase.box];
     const answer = await ask(say("make.secret"), [...refused, secret.element, ...asked, more.element], [
       { key: "go", label: say("make.create"), kind: "primary", take },
-      { key: "back", label: say("back"), take: keep },
+      { key: "back", label: say("back"), kind: BACK, take: keep },
     ]);
     if (answer === "back") return null;
     const made = await created(desk, plan, /** @type {any} */ (typed), chosen);
@@ -239,7 +246,7 @@ async function create(desk, plan, chosen) {
 async function created(desk, plan, { secret, dice, passphrase }, { exponent, wallet }) {
   setTouched(true);
   const digits = secret.digits?.length ?? 0;
-  const seconds = desk.secondsFor({ exponent, secretBytes: secret.bytes || digits / 2 });
+  const seconds = desk.secondsFor({ exponent, secretBytes: digits / 2 || secret.bytes });
   const isLong = exponent >= LONG_EXPONENT;
   try {
     await desk.ask("passphrase", { passphrase }, [passphrase.buffer]);

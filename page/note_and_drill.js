@@ -1,6 +1,6 @@
 // The end of 'Make a backup': the owner notes the fingerprint, types what was noted, and every quorum is tried with that.
 import { element, paragraph } from "./dom.js";
-import { askToDrill, runDrill, saidCount } from "./drill.js";
+import { askToDrill, runDrill, saidCount, toldVerdict } from "./drill.js";
 import { askPassphrase } from "./passphrase.js";
 import { saidRefusal } from "./refusals.js";
 import { say } from "./say.js";
@@ -74,6 +74,7 @@ function askNotes(desk, { fingerprint, isOwn }, fault, noted) {
  * @returns {Promise<{answer: Verdict | "again" | null, refused: string}>}
  */
 async function drillWith(desk, made, noted) {
+  setStep(8);
   const [status, kinds, title] = [await desk.ask("status"), await desk.ask("kinds"), say("make.drill")];
   if (!(await askToDrill(desk, [saidCount(status)], kinds[0], { title, hasBack: true }))) return { answer: "again", refused: "" };
   const verdict = await runDrill(desk, status, { title, noted: noted || made.fingerprint, isOwn: noted === "" });
@@ -90,7 +91,7 @@ async function drillWith(desk, made, noted) {
  * @param {Made} made
  * @returns {Promise<"again" | "end">}
  */
-function tellFailed({ result, sentences, hasPassphrase, table }, made) {
+function tellFailed({ result, sentences, isEqual, hasPassphrase, table }, made) {
   const which = !made.hasPassphrase ? "proof.passphrase.without" : hasPassphrase ? "proof.passphrase" : "proof.passphrase.none";
   const then = made.hasPassphrase ? "proof.passphrase.then" : "proof.passphrase.without.then";
   const [why, next, again] =
@@ -98,6 +99,6 @@ function tellFailed({ result, sentences, hasPassphrase, table }, made) {
       ? [[say(which)], say(then), say("proof.again")]
       : [sentences, say(result === "stopped" ? "make.unproved" : "make.failed"), result === "stopped" ? say("make.again") : ""];
   const ways = again ? [{ key: /** @type {const} */ ("again"), label: again, kind: "primary" }] : [];
-  const told = [...why.map((text) => paragraph(text, "bad")), paragraph(next), table];
+  const told = [toldVerdict({ result, sentences: why, isEqual }), paragraph(next), table];
   return ask(say("make.failed.title"), told, [...ways, { key: /** @type {const} */ ("end"), label: say("end") }]);
 }

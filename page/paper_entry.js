@@ -28,6 +28,8 @@ export class PaperEntry {
   #grid = element("div", { class: "words" });
   #reading = button(say("entry.read"), () => this.#read(), "primary read");
   #answer = element("p", { class: "answer" });
+  // What is done if words are missing, so that nobody is asked about the paper.
+  onMissing = () => {};
   // What stands directly below the answer.
   below = element("div", { class: "buttons" });
   #count = labelled(say("entry.count"), "number", {
@@ -294,6 +296,7 @@ export class PaperEntry {
     const missing = this.#missing();
     if (missing !== null) {
       missing.field?.focus();
+      this.onMissing();
       this.say(missing.told, true);
       this.#isMissing = true;
       return;

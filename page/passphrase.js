@@ -1,6 +1,6 @@
 // The questions for the passphrase and for the noted fingerprint.
 import { bytesOf, typedDigits } from "./bytes.js";
-import { element, hidden, labelled, paragraph, tick } from "./dom.js";
+import { BACK, element, hidden, labelled, paragraph, tick } from "./dom.js";
 import { saidError } from "./refusals.js";
 import { say } from "./say.js";
 import { ask } from "./screen.js";
@@ -93,7 +93,7 @@ export function notedFields(noted, mayLack = true) {
  *   fingerprint that was given before, or null. `why` says what both are asked for, `back` is the answer that goes back, or an empty text if there is none, and `mayLack`
  *   says whether the owner may have noted no fingerprint. `refuse` says what is wrong with a fingerprint, or null: then what was typed stays
  */
-export async function askPassphrase(desk, { title, fault, noted, why = say("passphrase.why"), back = say("collect.back"), mayLack = true, refuse = () => null }) {
+export async function askPassphrase(desk, { title, fault, noted, why = say("passphrase.why"), back = say("back"), mayLack = true, refuse = () => null }) {
   const [passphrase, fingerprint] = [passphraseFields(desk, false), notedFields(noted, mayLack)];
   const typed = { passphrase: new Uint8Array(), fingerprint: "" };
   const take = () => {
@@ -105,7 +105,7 @@ export async function askPassphrase(desk, { title, fault, noted, why = say("pass
   const children = [...refused, paragraph(why), passphrase.box, fingerprint.box];
   const answer = await ask(title, children, [
     { key: "go", label: say("continue"), kind: "primary", take },
-    ...(back ? [{ key: "back", label: back }] : []),
+    ...(back ? [{ key: "back", label: back, kind: back === say("back") ? BACK : "" }] : []),
   ]);
   if (answer === "back") return null;
   await desk.ask("passphrase", { passphrase: typed.passphrase }, [typed.passphrase.buffer]);

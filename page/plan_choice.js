@@ -1,5 +1,5 @@
 // The choice of a plan: proposals in plain words, or groups and members by buttons; and the screen that asks for it.
-import { choice, element, paragraph } from "./dom.js";
+import { BACK, choice, element, paragraph } from "./dom.js";
 import { GROUPS_MAX, MEMBERS_MAX, planText, saidDangers, saidPlan, saidSingles } from "./plan.js";
 import { planPicture } from "./plan_picture.js";
 import { saidError } from "./refusals.js";
@@ -137,7 +137,7 @@ export async function askPlan(desk, chosen, { title, step }) {
     const children = [fault ? paragraph(fault, "fault") : null, paragraph(say("plan.what")), chosen.element, ...hints];
     const answer = await ask(title, children, [
       { key: "go", label: say("continue"), kind: "primary" },
-      { key: "back", label: say("back") },
+      { key: "back", label: say("back"), kind: BACK },
     ]);
     if (answer === "back") return false;
     fault = await planFault(desk, chosen.plan);

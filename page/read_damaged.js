@@ -1,7 +1,7 @@
 // The task 'Read a damaged paper': the engine finds the words that can't be read, or says where a wrong word is. The owner compares
 // them with the paper, writes it anew, types it back, and checks it together with other papers.
 import { collectAndCheck } from "./check_papers.js";
-import { button, element, paragraph } from "./dom.js";
+import { BACK, button, element, paragraph } from "./dom.js";
 import { leaveEntry, PaperEntry, USUAL_WORDS } from "./paper_entry.js";
 import { saidTakesAlone } from "./plan.js";
 import { saidError, wordsToLookAt } from "./refusals.js";
@@ -21,13 +21,12 @@ import { isOpen } from "./spelling.js";
  * @param {Desk} desk
  */
 export async function readDamaged(desk) {
-  setSteps(4);
+  setSteps(6);
   const fit = await askWhatIsRead(desk);
   if (fit === null) return;
-  setStep(2);
   const { index, kind } = fit;
-  await writeAndTypeBack(desk, { index, name: kind.name, takes: saidTakesAlone(kind) }, kind.words);
-  const what = { title: say("damaged.check.title"), intro: say("damaged.check.intro"), passphrase: say("damaged.passphrase"), drill: say("damaged.drill"), steps: [3, 4, 4], repaired: kind.name };
+  await writeAndTypeBack(desk, { index, name: kind.name, takes: saidTakesAlone(kind) }, kind.words, 2);
+  const what = { title: say("damaged.check.title"), intro: say("damaged.check.intro"), passphrase: say("damaged.passphrase"), drill: say("damaged.drill"), steps: [4, 5, 6], repaired: kind.name };
   await collectAndCheck(desk, what, () => [paragraph(say("damaged.too_few"), "note")]);
 }
 
@@ -80,8 +79,8 @@ class Damaged {
 
   show() {
     const marks = element("ul", {}, ...["letters", "nothing"].map((key) => element("li", {}, say(`damaged.${key}`))));
-    const back = element("div", { class: "buttons" }, button(say("back"), () => leaveEntry(this.#entry, () => this.#onChosen(null))));
-    show(say("damaged.title"), paragraph(say("damaged.intro")), marks, paragraph(say("damaged.first")), this.#entry.element, this.#found, back);
+    const back = button(say("back"), () => leaveEntry(this.#entry, () => this.#onChosen(null)), BACK);
+    show(say("damaged.title"), back, paragraph(say("damaged.intro")), marks, paragraph(say("damaged.first")), this.#entry.element, this.#found);
     this.#entry.focus();
   }
 
@@ -121,7 +120,7 @@ class Damaged {
     const open = marks.filter((mark) => isOpen(this.#desk.begun.words, mark)).length;
     const [possible, impossible] = [kinds.filter((kind) => kind.isPossible), kinds.filter((kind) => !kind.isPossible)];
     const isOneOfTwo = possible.length > 1;
-    const fits = possible.map((kind) => this.#fit({ index: kinds.indexOf(kind), kind }, marks, { isOneOfTwo, isOpen: open > 0 }));
+    const fits = possible.map((kind) => this.#fit({ index: kinds.indexOf(kind), kind }, marks, isOneOfTwo));
     const heading = element("h2", { tabindex: "-1" }, say("damaged.found"));
     this.#found.replaceChildren(
       heading,
@@ -131,7 +130,8 @@ class Damaged {
       ...(open && fits.length ? [paragraph(say("damaged.compare"), "note")] : []),
       ...(open ? [paragraph(say("damaged.limits", { case: say(`damaged.limits.${open}`) }))] : []),
       ...(fits.length ? [paragraph(say("damaged.next"))] : []),
-      element("div", { class: "buttons" }, ...fits.map(({ write }) => write)),
+      ...(open && fits.length ? [paragraph(say(isOneOfTwo ? "damaged.sure.which" : "damaged.sure", { name: possible[0].name }), "legend")] : []),
+      element("div", { class: "buttons" }, ...fits.map(({ write }) => write), open && fits.length ? this.#denial(isOneOfTwo) : null),
     );
     this.#entry.isLeading = fits.length !== 1;
     await Promise.all(fits.map(({ fill }) => fill()));
@@ -143,9 +143,9 @@ class Damaged {
    *
    * @param {Fit} fit
    * @param {string[]} marks
-   * @param {{isOneOfTwo: boolean, isOpen: boolean}} what whether another paper fits too, and whether a word is open
+   * @param {boolean} isOneOfTwo whether another paper fits too
    */
-  #fit(fit, marks, { isOneOfTwo, isOpen }) {
+  #fit(fit, marks, isOneOfTwo) {
     const { index, kind } = fit;
     const list = element("ul", { class: "rows", translate: "no" });
     const row = (/** @type {string} */ word, /** @type {number} */ at) =>
@@ -157,7 +157,19 @@ class Damaged {
     });
     const which = isOneOfTwo ? element("h3", {}, say("damaged.which", { number: index + 1, name: kind.name })) : null;
     const write = button(say(isOneOfTwo ? "damaged.write.which" : "damaged.write", { number: index + 1, name: kind.name }), () => this.#onChosen(fit), isOneOfTwo ? "" : "primary");
-    const sure = isOpen ? paragraph(say("damaged.sure", { name: kind.name })) : null;
-    return { fill, write, box: element("div", { class: "fit" }, which, list, again, sure) };
+    return { fill, write, box: element("div", { class: "fit" }, which, list, again) };
+  }
+
+  /**
+   * Makes the button that says that what was found can't be right. It leads back to the words that were typed.
+   *
+   * @param {boolean} isOneOfTwo
+   */
+  #denial(isOneOfTwo) {
+    return button(say(isOneOfTwo ? "damaged.no.which" : "damaged.no"), () => {
+      this.#changed();
+      this.#entry.say(say("damaged.no.then"), true);
+      this.#entry.focus();
+    });
   }
 }

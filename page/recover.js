@@ -92,6 +92,7 @@ async function tell(desk, noted, fingerprint) {
     paragraph(say(key, { fingerprint, noted }), which === "other" ? "bad" : which === "same" ? "good" : "note"),
     element("p", { class: "fingerprint" }, fingerprint),
     ...offered,
+    ...(which === "other" ? [] : [element("h2", {}, say("recover.next.title")), paragraph(say("recover.next"))]),
     paragraph(say("close")),
   ];
   const answer = await askWhatNext(say(`recover.done.${which}`), children, which === "other" ? "again" : "end", which === "same");

@@ -4,7 +4,7 @@ import { changePlan } from "./change_plan.js";
 import { drillWithPassphrase, saidLeftOut } from "./check_papers.js";
 import { Declined } from "./client.js";
 import { askForMore, collectPapers } from "./collect.js";
-import { choice, paragraph } from "./dom.js";
+import { BACK, choice, paragraph } from "./dom.js";
 import { planText, saidTakesAlone } from "./plan.js";
 import { saidError } from "./refusals.js";
 import { say } from "./say.js";
@@ -24,7 +24,7 @@ import { askWhich } from "./which_paper.js";
  */
 export async function replacePaper(desk) {
   for (;;) {
-    setSteps(5);
+    setSteps(8);
     const why = await askWhy();
     if (why === "back") return;
     const answer = why === "other" ? await tellNew() : await replaceDestroyed(desk);
@@ -43,7 +43,7 @@ function tellNew() {
   const told = [paragraph(say("replace.new.change"), "note"), paragraph(say("replace.new.move"))];
   return ask(say("replace.new.title"), told, [
     { key: "change", label: say("replace.new.change.go"), kind: "primary" },
-    { key: "back", label: say("back") },
+    { key: "back", label: say("back"), kind: BACK },
   ]);
 }
 
@@ -82,15 +82,14 @@ async function replaceDestroyed(desk) {
 async function writeMissing(desk, kind, written) {
   let fault = "";
   for (;;) {
-    setStep(written.length ? 4 : 3);
+    setStep(written.length ? 6 : 3);
     /** @type {Wanted | "papers" | "drill"} */
     const wanted = await askWhich(await desk.ask("status"), kind, fault, written.length > 0);
     if (typeof wanted === "string") return wanted;
     const found = await computed(desk, wanted);
     fault = found.fault;
     if (fault !== "") continue;
-    setStep(4);
-    await writeAndTypeBack(desk, { index: found.index, name: wanted.name, takes: takesOf(wanted) }, kind.words);
+    await writeAndTypeBack(desk, { index: found.index, name: wanted.name, takes: takesOf(wanted) }, kind.words, 4);
     if (!written.includes(wanted.name)) written.push(wanted.name);
   }
 }
@@ -158,7 +157,7 @@ async function askWhy() {
   const take = () => (why === null ? say("replace.why.missing") : null);
   const answer = await ask(say("replace.title"), [asked], [
     { key: "go", label: say("continue"), kind: "primary", take },
-    { key: "back", label: say("back") },
+    { key: "back", label: say("back"), kind: BACK },
   ]);
   return answer === "back" ? answer : /** @type {any} */ (why);
 }
@@ -171,9 +170,9 @@ async function askWhy() {
  * @param {string[]} written the names of the papers that were written again
  */
 async function drillRest(desk, kind, written) {
-  setStep(5);
+  setStep(7);
   const [status, kinds] = [await desk.ask("status"), await desk.ask("kinds")];
-  const what = { title: say("replace.drill"), passphrase: say("replace.passphrase"), steps: [5, 5], written };
+  const what = { title: say("replace.drill"), passphrase: say("replace.passphrase"), steps: [7, 8], written };
   if (status.enough) return drillWithPassphrase(desk, status, kind, what);
   return tellFew(desk, status, kinds, "replace.too_few", written.length > 0);
 }

@@ -1,5 +1,5 @@
 // The one screen that the page shows at a time, what a screen reader is told, and what leaves the page's elements with it.
-import { button, concealIn, element, paragraph } from "./dom.js";
+import { BACK, button, concealIn, element, paragraph } from "./dom.js";
 import { estimated } from "./estimate.js";
 import { say } from "./say.js";
 
@@ -12,8 +12,8 @@ const live = /** @type {HTMLElement} */ (document.getElementById("live"));
 let touched = false;
 /** @type {Unfinished} */
 let unfinished = "";
-// Which step of a task the screen is, and how many steps the task has.
-let step = { at: 0, count: 0 };
+// Which step of a task the screen is, and how many steps the task has, or has at most.
+let step = { key: "step", at: 0, count: 0 };
 // What the next screen says first.
 let news = { text: "", kind: "note" };
 
@@ -52,9 +52,10 @@ export function setUnfinished(key) {
  * Begins a task of so many steps. Without a task there are none.
  *
  * @param {number} count
+ * @param {boolean} [isMost] whether the task may have fewer, which depends on what is typed in its first step
  */
-export function setSteps(count) {
-  step = { at: 1, count };
+export function setSteps(count, isMost = false) {
+  step = { key: isMost ? "step.most" : "step", at: 1, count };
 }
 
 /**
@@ -89,16 +90,17 @@ function leave() {
 }
 
 /**
- * Shows a screen, and moves the focus to its title.
+ * Shows a screen, and moves the focus to its title. The way back, if there is one, stands above the title on each screen, beside the step.
  *
  * @param {string} title
+ * @param {HTMLButtonElement | null} back
  * @param {Child[]} children
  */
-export function show(title, ...children) {
+export function show(title, back, ...children) {
   leave();
-  const heading = element("h1", { tabindex: "-1" }, title);
-  main.append(heading);
-  if (step.count) main.append(paragraph(say("step", step), "step"));
+  const place = step.count ? element("p", { class: "step", id: "step" }, say(step.key, step)) : null;
+  const heading = element("h1", { tabindex: "-1", ...(place ? { "aria-describedby": place.id } : {}) }, title);
+  main.append(element("div", { class: "top" }, back, place), heading);
   if (news.text !== "") {
     main.append(paragraph(news.text, news.kind));
     announce(news.text);
@@ -111,7 +113,7 @@ export function show(title, ...children) {
 
 /**
  * Shows a screen with buttons, and waits until one of them is pressed. The `take` of a button takes what was typed. If it returns a
- * text, which says what is missing, the screen stays. `after` stands below the buttons.
+ * text, which says what is missing, the screen stays. A button of the kind `back` is the way back. `after` stands below the buttons.
  *
  * @template {string} K
  * @param {string} title
@@ -139,7 +141,8 @@ export function ask(title, children, answers, after = []) {
         kind,
       ),
     );
-    show(title, ...children, fault, element("div", { class: "buttons" }, ...buttons), ...after);
+    const back = buttons.find((it) => it.className === BACK) ?? null;
+    show(title, back, ...children, fault, element("div", { class: "buttons" }, ...buttons.filter((it) => it !== back)), ...after);
     goOnByEnter(buttons.find((it) => it.classList.contains("primary")));
   });
 }
@@ -191,5 +194,5 @@ export function askAbove(text, stay, go, onGo) {
  */
 export function showWork(title, text, seconds, onStop) {
   const buttons = onStop && element("div", { class: "buttons" }, button(say("stop"), onStop));
-  show(title, element("p", { class: "work", role: "status" }, text), estimated(seconds), buttons);
+  show(title, null, element("p", { class: "work", role: "status" }, text), estimated(seconds), buttons);
 }

@@ -57,7 +57,7 @@ export async function showPaper(desk, { index, name, takes, shown = name }, plac
   const list = element("ol", { class: "paper", translate: "no" });
   const { fill, again } = shownWords(desk, index, list, (words) => words.map((word) => element("li", {}, word)));
   setTouched(true);
-  const children = [paragraph(place, "place"), paragraph(takes), paragraph(say("paper.how"), "hint"), list, again];
+  const children = [paragraph(place, "place"), paragraph(takes), paragraph(say("paper.how", { name }), "hint"), list, again];
   const written = ask(say("paper.title", { name: shown }), children, [{ key: "written", label: say("paper.written"), kind: "primary" }]);
   await fill();
   await written;
@@ -88,7 +88,7 @@ export function typeBack(desk, { index, name, shown = name }, place, words) {
       }
     });
     const again = button(say("back.again", { name: shown }), () => resolve(false));
-    show(say("back.title", { name: shown }), paragraph(place, "place"), paragraph(say("back.how")), entry.element, element("div", { class: "buttons" }, again));
+    show(say("back.title", { name: shown }), null, paragraph(place, "place"), paragraph(say("back.how")), entry.element, element("div", { class: "buttons" }, again));
     entry.focus();
   });
 }
@@ -99,11 +99,15 @@ export function typeBack(desk, { index, name, shown = name }, place, words) {
  * @param {Desk} desk
  * @param {Shown} paper
  * @param {number} words
+ * @param {number} step that of writing. The next one is that of typing back
  */
-export async function writeAndTypeBack(desk, paper, words) {
+export async function writeAndTypeBack(desk, paper, words, step) {
   setUnfinished("clear.replaced");
-  await showPaper(desk, paper, "");
-  while (!(await typeBack(desk, paper, "", words))) await showPaper(desk, paper, "");
+  do {
+    setStep(step);
+    await showPaper(desk, paper, "");
+    setStep(step + 1);
+  } while (!(await typeBack(desk, paper, "", words)));
   setUnfinished("");
 }
 
@@ -113,19 +117,19 @@ export async function writeAndTypeBack(desk, paper, words) {
  * @param {Desk} desk
  * @param {Plan} plan
  * @param {number} words how many words each paper has
- * @param {{title: string, first?: string, unfinished: Unfinished, steps: number[]}} what `title` is that of the screen before the first
- *   paper, which says `first` before all else. `unfinished` is said before clearing meanwhile, and `steps` are those of writing and of
- *   typing back
+ * @param {{title: string, first?: string, unfinished: Unfinished, step: number}} what `title` is that of the screen before the first
+ *   paper, which says `first` before all else. `unfinished` is said before clearing meanwhile, and `step` is that of writing. The next one
+ *   is that of typing back
  */
-export async function writeAll(desk, plan, words, { title, first = "", unfinished, steps: [writing, back] }) {
-  setStep(writing);
+export async function writeAll(desk, plan, words, { title, first = "", unfinished, step }) {
+  setStep(step);
   const labelOf = await offerForms(plan, words, title, first);
   const names = planNames(plan);
   const papers = names.map((name, index) => ({ index, name, shown: named(name, labelOf(name)), takes: saidTakes(plan, name) }));
   const place = (/** @type {number} */ index) => say("paper.place", { number: index + 1, count: names.length });
   setUnfinished(unfinished);
   for (const paper of papers) await showPaper(desk, paper, place(paper.index));
-  setStep(back);
+  setStep(step + 1);
   await ask(say("back.begin.title"), [paragraph(say("back.begin"))], [{ key: "go", label: say("continue"), kind: "primary" }]);
   for (const paper of papers) {
     while (!(await typeBack(desk, paper, place(paper.index), words))) await showPaper(desk, paper, place(paper.index));

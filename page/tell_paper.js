@@ -1,5 +1,5 @@
 // The task 'What is this paper?': one paper says what it is, without a passphrase and without other papers. The worker keeps nothing of it.
-import { button, element, paragraph } from "./dom.js";
+import { BACK, button, element, paragraph } from "./dom.js";
 import { leaveEntry, PaperEntry, USUAL_WORDS } from "./paper_entry.js";
 import { saidTakesAlone } from "./plan.js";
 import { saidError, wordsToLookAt } from "./refusals.js";
@@ -70,8 +70,11 @@ class Telling {
   }
 
   show() {
-    const back = button(say("back"), () => leaveEntry(this.#entry, () => this.#onEnd()));
-    show(say("what.title"), paragraph(say("what.intro")), this.#entry.element, this.#found, element("div", { class: "buttons" }, back));
+    const back = button(say("back"), () => leaveEntry(this.#entry, () => this.#onEnd()), BACK);
+    // What is found stands above the fields, so that it is in sight on a phone, too.
+    this.#entry.below.append(this.#found);
+    this.#entry.onMissing = () => this.#found.replaceChildren();
+    show(say("what.title"), back, paragraph(say("what.intro")), this.#entry.element);
     this.#entry.focus();
   }
 

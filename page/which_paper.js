@@ -1,5 +1,5 @@
 // The question which paper is missing. Names that lie between those that are here, or after them, are offered; any other is typed.
-import { choice, element, labelled, paragraph } from "./dom.js";
+import { BACK, choice, element, labelled, paragraph } from "./dom.js";
 import { picture } from "./picture.js";
 import { MEMBERS_MAX } from "./plan.js";
 import { say } from "./say.js";
@@ -135,7 +135,7 @@ export async function askWhich(status, kind, fault, isWritten) {
   const write = { key: /** @type {const} */ ("write"), label: say("which.write"), kind: isDone ? "" : "primary", take: () => asked.missing() };
   const drill = { key: /** @type {const} */ ("drill"), label: say("replace.end"), kind: isDone ? "primary" : "" };
   const answers = asked.hasNone ? [drill] : isDone ? [drill, write] : [write, drill];
-  const ways = [...answers, { key: /** @type {const} */ ("papers"), label: say("collect.back") }];
+  const ways = [...answers, { key: /** @type {const} */ ("papers"), label: say("back"), kind: BACK }];
   const answer = await ask(say("replace.which"), children, ways, [picture(status, kind.groupCount, "replace")]);
   return answer === "write" ? asked.read() : answer;
 }

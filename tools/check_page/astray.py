@@ -234,7 +234,7 @@ def check_without(page, see):
         begin(page, task)
         take(page, THREE_GROUPS[:1])
         paste(page, SOUND_PAPER)
-        page.wait_text("its first two words differ")
+        page.wait_text("its first 2 words differ")
         page.push(say("entry.empty"))
         take(page, THREE_GROUPS[1:4])
         page.push(say("collect.end"))

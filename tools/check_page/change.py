@@ -131,6 +131,7 @@ def check_extendable(page, see):
     """An extendable backup: too few papers, the way back, and new papers that agree with the old ones for every passphrase."""
     old = old_papers()
     begin(page, "change")
+    page.wait_text(say("step.most", at=1, count=8))
     pictures(page, see, "old papers")
     take(page, old[:1])
     page.wait_title(say("recover.few"))
@@ -147,6 +148,8 @@ def check_extendable(page, see):
     page.push(say("continue"))
     new = write(page, see, old, is_checked=True)
     check_new(new, [old[0], old[1], old[3]], "3of5", 1, 0)
+    # No wallet and no passphrase was asked for.
+    page.wait_text(say("step", at=5, count=6))
     pictures(page, see, "what was noted")
     answer_passphrase(page, "TREZOr", FINGERPRINT)
     page.push(say("drill.start"))

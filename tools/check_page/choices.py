@@ -1,10 +1,14 @@
 """What an owner is asked on the way to a backup: the wallet, a plan with a danger, and what was noted. What is green, what has a sign, and
 what one paper says."""
+import json
+
 from browsers import Failed
 from refusals import BAD_CHECKSUM, BIP39, changed, paste, said
 from tasks import FINGERPRINT, PASSPHRASE, SECRET, SOUND_PAPER, THREE_GROUPS, answer_passphrase, begin, choose_wallet, create, end, example, fingerprint_of, plain, read_paper, type_digits, type_paper
-from texts import counted, say
+from texts import ROOT, counted, say
 
+# The version that the page tells, as the package of the engine has it.
+VERSION = json.loads((ROOT / "bindings/js/package.json").read_text())["version"]
 # Returns the texts that are green, or in a green frame, and the classes of those that have none.
 GREEN = """
 (() => {
@@ -38,21 +42,24 @@ def check_green(page, wanted):
 
 
 def check_wallet(page, see):
-    """The wallet must be said. The answer stays on the way back."""
+    """The wallet must be said, and its number of words sets the length of a new secret. The answers stay on the way back."""
     begin(page, "make")
     page.push(say("continue"))
     page.wait_title(say("make.wallet"))
     page.push(say("continue"))
     page.wait_text(say("wallet.missing"))
+    page.wait_text(f"only shamir {VERSION} was tried")
     see("which wallet")
     page.push(say("back"))
     page.wait_title(say("make.plan"))
     for wallet in ("unknown", "older", "flag"):
-        choose_wallet(page, wallet)
+        choose_wallet(page, wallet, 33)
+        page.wait_text(say("secret.new.hint", bytes=32, words=33))
         page.push(say("back"))
         page.wait_title(say("make.wallet"))
-        if not page.is_true("(it) => it.getAttribute('aria-checked') === 'true'", page.node("radio", say(f"wallet.{wallet}"))):
-            raise Failed("on the way back, another wallet is chosen")
+        for chosen in (say(f"wallet.{wallet}"), say("entry.words", count=33)):
+            if not page.is_true("(it) => it.getAttribute('aria-checked') === 'true'", page.node("radio", chosen)):
+                raise Failed(f"on the way back, another wallet or number of words is chosen than {chosen!r}")
         page.push(say("back"))
         page.wait_title(say("make.plan"))
     page.push(say("back"))
@@ -75,7 +82,7 @@ THROWS = "31415 26535 24426 43331 52364 26463 52313 25114 16155 31122 31415 2653
 def check_dice(page, see):
     """Throws of a die are mixed into the random bytes of a new secret, if they are enough."""
     page.evaluate(FOREKNOWN % "")
-    for count, source in [(50, "new16"), (101, "new32")]:
+    for count, words in [(50, 20), (101, 33)]:
         throws = THROWS.replace(" ", "")[:count]
         begin(page, "make")
         page.choose(say("plan.own"))
@@ -85,8 +92,8 @@ def check_dice(page, see):
         page.push(say("continue"))
         page.push(say("plan.sure.yes"))
         page.choose(say("wallet.older"))
+        page.choose(say("entry.words", count=words))
         page.push(say("continue"))
-        page.choose(say(f"secret.{source}"))
         page.tick(say("passphrase.none"))
         page.evaluate("document.querySelector('details').open = true; null")
         for typed, text in [(throws[:49], say("more.dice.few", count=49, least=count // 50 * 50)), ("7", say("more.dice.wrong")), (throws, "")]:
@@ -275,13 +282,23 @@ def check_what(page, see):
         if line == THREE_GROUPS[2]:
             see("what a paper is")
     check_green(page, [])
+    page.size(*PHONE)
+    paste(page, THREE_GROUPS[2])
+    page.wait(lambda: set(said_kind(THREE_GROUPS[2])) <= set(told_of(page)), "what a paper is, on a phone")
+    page.wait(lambda: page.evaluate(IN_SIGHT % "document.querySelector('.told')"), "what a paper is in sight of its fields")
+    see("phone what a paper is")
+    page.size(1200, 900)
     paste(page, BAD_CHECKSUM)
     page.wait_text(said(18, first=20))
     if page.evaluate("document.querySelectorAll('.told li').length"):
         raise Failed("what was said of another paper stays")
     page.push(say("entry.empty"))
+    paste(page, THREE_GROUPS[2])
+    page.wait(lambda: told_of(page) != [""], "what a paper is, before a phrase of BIP-39")
     paste(page, BIP39)
     page.wait_text(say("entry.bip39", count=12))
+    if page.evaluate("document.querySelectorAll('.told li').length"):
+        raise Failed("what was said of another paper stays beside a phrase of BIP-39")
     see("a phrase of BIP-39")
     page.push(say("clear"))
     page.wait_title(say("home.title"))
@@ -307,6 +324,8 @@ ONE_LINE = """
   return places.length === 3 && Math.max(...ends) - Math.min(...ends) < 8 && places.every(({ height }) => height < 60);
 })()
 """
+# Whether the buttons that take papers out stand in the rows of these papers, and aren't below their names.
+BESIDE = "[...document.querySelectorAll('.found .rows li')].every((it) => it.getBoundingClientRect().height < 2 * it.querySelector('button').getBoundingClientRect().height)"
 PHONE = (390, 844)
 # Returns the texts that reach beyond their boxes.
 CUT = """
@@ -344,6 +363,8 @@ def check_phone(page, see):
         if line == SOUND_PAPER:
             if not page.evaluate(IN_SIGHT % "document.querySelector('#main button.primary')"):
                 raise Failed("the button that goes on with papers that are enough is out of sight")
+            if not page.evaluate(BESIDE):
+                raise Failed("the button that takes a paper out doesn't stand beside its name")
             page.go_to("button", say("collect.drop", name="0.0"))
             page.evaluate("document.querySelector('.entry .read').focus({ preventScroll: true }); null")
             page.press("Enter")
@@ -359,6 +380,9 @@ def check_phone(page, see):
     see("phone shown paper")
     if page.evaluate(COLUMNS % ".paper li") != "down 2 columns, all shown":
         raise Failed(f"the words of a shown paper run {page.evaluate(COLUMNS % '.paper li')}")
+    beyond = page.evaluate("document.documentElement.scrollHeight - innerHeight")
+    if beyond > 0:
+        raise Failed(f"the screen of a paper is {beyond} pixels higher than a phone, so it scrolls a little")
     page.push(say("clear"))
     page.push(say("clear.yes"))
     page.wait_title(say("home.title"))

@@ -194,6 +194,15 @@ DAMAGED = [
 ]
 
 
+def deny(page, answer, line):
+    """Says that the words that were found can't be right. What was typed stays, and what was found goes."""
+    page.push(say(answer))
+    page.wait_text(say("damaged.no.then"))
+    typed = page.evaluate("[...document.querySelectorAll('.word:not([hidden]) input')].map((it) => it.value).join(' ')")
+    if found_words(page) or typed != line:
+        raise Failed(f"after {say(answer)!r}, the page shows {found_words(page)!r}, and the fields {typed!r}")
+
+
 def check_damaged(page, see):
     """What is found of a damaged paper, and each refusal. Words in fields that the page marks itself."""
     begin(page, "damaged")
@@ -207,6 +216,9 @@ def check_damaged(page, see):
         page.wait(lambda: found_words(page) == wanted and text in page.text(), f"the answer {wanted!r} {text!r} to {line!r}")
         if len(found) == 2:
             page.wait_text(say("damaged.two.which"))
+        # 4 letters stand for one word, so such a word isn't open.
+        if found and any(mark.endswith("?") and len(mark) < 5 for mark in line.split()):
+            deny(page, "damaged.no.which" if len(found) == 2 else "damaged.no", line)
     page.push(say("entry.empty"))
     paste(page, with_words({5: "?", 7: "leng?"}))
     page.wait_text(say("damaged.limits.1"))

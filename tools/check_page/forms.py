@@ -1,6 +1,6 @@
 """The blank forms: which are printed, and what the engine refuses."""
 from browsers import Failed
-from tasks import begin, choose_wallet, end, read_paper
+from tasks import begin, choose_wallet, read_paper
 from texts import say
 
 # What each form has besides its name, its plan and its lines for words.
@@ -17,6 +17,11 @@ GUTTER = """
 """
 # Shows the page as it's printed, or as it is again.
 SHOW_AS = "for (const it of document.styleSheets[0].cssRules) if (it.media?.mediaText === '%s') it.media.mediaText = '%s'; null"
+
+
+def leave(page):
+    page.push(say("back"))
+    page.wait_title(say("home.title"))
 
 
 def check_blank(page, see):
@@ -51,7 +56,7 @@ def check_blank(page, see):
         raise Failed(f"the lines of a form stand in columns with this gutter: {page.evaluate(GUTTER)}")
     page.size(1200, 900)
     page.evaluate(SHOW_AS % ("all", "print"))
-    end(page)
+    leave(page)
     if page.evaluate("document.getElementById('sheet').children.length"):
         raise Failed("the forms stay after the task")
 
@@ -100,7 +105,7 @@ def check_single(page, _):
     text = page.evaluate("document.getElementById('sheet').textContent")
     if say("blank.heirs.one") not in text or say("blank.heirs") in text:
         raise Failed("the form of a single paper says that it is one of several")
-    end(page)
+    leave(page)
 
 
 CHECKS = [check_blank, check_offered, check_single]

@@ -22,27 +22,38 @@ WATCH = """
 null
 """
 SEEN = "window.watch.disconnect(); JSON.stringify(window.seen)"
+# 'Change the plan' has at most so many steps.
+MOST_STEPS = 8
+# How the titles of screens begin that show papers, or ask to type them back.
+PAPERS = (say("paper.title", name=""), say("back.begin.title"))
 
 
-def check_seen(page, task, count):
-    """Checks the screens of a task that ended: its steps begin at 1, go on by one, and end at their number."""
+def check_seen(page, task, count, is_most=False):
+    """Checks the screens of a task that ended: its steps begin at 1, go on by one, and end at their number. `is_most` says that the first
+    step tells how many there are at most. Only papers that are written and typed back, and a drill with its result, are several screens of
+    one step."""
     seen = [it for it in json.loads(page.evaluate(SEEN)) if it[1]]
     crowded = [it for it in seen if it[2] > 1]
     if crowded:
         raise Failed(f"{task}: more than one button is to be pressed next: {crowded[:3]}")
     steps = [it[0] for it in itertools.groupby(step for _, step, _ in seen)]
-    if steps != [say("step", at=at, count=count) for at in range(1, count + 1)]:
+    first = [say("step.most", at=1, count=MOST_STEPS)] if is_most else [say("step", at=1, count=count)]
+    if steps != [*first, *(say("step", at=at, count=count) for at in range(2, count + 1))]:
         raise Failed(f"{task}: the steps are {steps}")
+    for step in steps[:-1]:
+        asking = {title for title, at, leading in seen if at == step and leading}
+        if len(asking) > 1 and not any(it.startswith(PAPERS) for it in asking):
+            raise Failed(f"{task}: {step!r} stands still on the screens {asking}")
 
 
 def check_steps(page, see):
     """Each task from its start to its end."""
-    for task, count, go in [("make", 7, make), ("check", 3, check), ("recover", 3, recover), ("replace", 5, replace), ("change", 6, change), ("damaged", 4, repair)]:
+    for task, count, go in [("make", 8, make), ("check", 3, check), ("recover", 3, recover), ("replace", 8, replace), ("change", 8, change), ("damaged", 6, repair)]:
         page.evaluate(WATCH)
         begin(page, task)
         go(page, see)
         end(page)
-        check_seen(page, task, count)
+        check_seen(page, task, count, task == "change")
         if page.evaluate("Boolean(document.querySelector('.step'))"):
             raise Failed("a step is shown without a task")
 

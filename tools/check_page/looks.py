@@ -94,7 +94,7 @@ def check(name, url, see, opened=Page):
             choose_wallet(page)
             page.choose(say("secret.own"))
             check_screen(page, f"{mode} own secret", see)
-            page.choose(say("secret.new16"))
+            page.choose(say("secret.new"))
             page.tick(say("passphrase.none"))
             check_screen(page, f"{mode} secret", see)
             create(page)

@@ -261,7 +261,7 @@ def check_prepare(page, _):
         page.push(say("prepare.ready"))
         if is_online:
             page.wait_text(say("prepare.still_online"))
-            page.push(say("back"))
+            page.push(say("prepare.no"))
             page.wait_title(say("home.title"))
     page.wait_title(say("check.title"))
     page.push(say("clear"))

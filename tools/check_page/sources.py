@@ -62,6 +62,9 @@ def check_forbidden(page):
 # What no text says: whoever is one paper short can still test guesses.
 PROMISES = ["learns nothing", "learn nothing", "nobody can", "no one can"]
 
+# All numbers have one format. 'One' is often no number.
+NUMBER = re.compile(r"\b(two|three|four|five|six|seven|eight|nine|ten|twelve|twenty)\b", re.IGNORECASE)
+
 
 def check_texts(page):
     source = (page / "texts.js").read_text()
@@ -73,6 +76,9 @@ def check_texts(page):
     promised = [key for key, text in table.items() if any(it in text for it in PROMISES)]
     if promised:
         raise Failed(f"these texts promise what SECURITY.md doesn't: {promised}")
+    spelt = [key for key, text in table.items() if NUMBER.search(text)]
+    if spelt:
+        raise Failed(f"these texts have a number in letters, and others have digits: {spelt}")
     doubled = re.findall(r'^  "([^"]+)":', source, re.MULTILINE)
     if len(doubled) != len(set(doubled)):
         raise Failed("the table of texts has a key twice")

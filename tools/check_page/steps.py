@@ -5,9 +5,18 @@ from tasks import FINGERPRINT, PASSPHRASE, SOUND_PAPER, THREE_GROUPS, begin, cho
 from texts import counted, say
 
 
-def go_back(page, title, answer="back"):
-    page.push(say(answer))
+# Returns where the way back stands.
+PLACE = "(({ left, top }) => `${Math.round(left)} ${Math.round(top + scrollY)}`)([...document.querySelectorAll('#main button')].find((it) => it.textContent === '%s').getBoundingClientRect())"
+
+
+def go_back(page, title):
+    """Goes back. The way back stands at one place on each screen, above its title."""
+    place = page.evaluate(PLACE % say("back"))
+    page.push(say("back"))
     page.wait_title(title)
+    page.place_of_back = getattr(page, "place_of_back", place)
+    if place != page.place_of_back:
+        raise Failed(f"the way back to {title!r} stands at {place}, and on other screens at {page.place_of_back}")
 
 
 def check_first_steps(page, _):
@@ -15,6 +24,8 @@ def check_first_steps(page, _):
     for task in ("make", "check", "recover", "replace", "change", "damaged", "what"):
         begin(page, task)
         go_back(page, say("home.title"))
+    begin(page, "blank")
+    go_back(page, say("home.title"))
     begin(page, "replace")
     page.choose(say("replace.other"))
     page.push(say("continue"))
@@ -23,7 +34,7 @@ def check_first_steps(page, _):
     page.choose(say("replace.destroyed"))
     page.push(say("continue"))
     page.wait_text(say("replace.intro"))
-    page.push(say("back"))
+    go_back(page, say("replace.title"))
     page.wait_text(say("replace.why"))
     go_back(page, say("home.title"))
 
@@ -56,7 +67,7 @@ def check_passphrase(page, _):
         raise Failed("one press leaves the papers that were read")
     page.push(say("collect.end"))
     page.wait_title(say("check.passphrase"))
-    go_back(page, say("check.title"), "collect.back")
+    go_back(page, say("check.title"))
     page.wait_text(say("collect.row", name="0.0", words=20))
     page.push(say("collect.end"))
     for passphrase in ("TREZOr", PASSPHRASE):
@@ -70,8 +81,7 @@ def check_passphrase(page, _):
             page.type(FINGERPRINT)
             page.press("Enter")
             page.wait_text(say("drill.count", total=1))
-            page.push(say("back"))
-            page.wait_text(say("passphrase.why"))
+            go_back(page, say("check.passphrase"))
     page.push(say("drill.start"))
     page.wait_text(say("verdict.all.noted", quorums=counted(1, "quorum"), fingerprint=FINGERPRINT))
     page.push(say("clear"))
@@ -173,19 +183,23 @@ def check_chosen(page, see):
         page.push(say("plan.sure.yes"))
         page.wait_title(say("make.wallet"))
         page.choose(say(f"wallet.{wallet}"))
+        page.choose(say("entry.words", count=33))
         page.push(say("back" if wallet == "flag" else "continue"))
     page.wait_title(say("make.secret"))
     page.evaluate("document.querySelector('details').open = true; null")
     page.go_to("spinbutton", say("more.exponent"))
     page.evaluate("document.activeElement.select()")
     page.type("3")
-    page.choose(say("secret.new32"))
+    page.choose(say("secret.own"))
     go_back(page, say("make.wallet"))
     go_back(page, say("make.plan"))
     for answer, title in [("continue", "plan.sure.title"), ("plan.sure.yes", "make.wallet"), ("continue", "make.secret")]:
         page.push(say(answer))
         page.wait_title(say(title))
+    if not page.is_true("(it) => it.getAttribute('aria-checked') === 'true'", page.node("radio", say("secret.own"))):
+        raise Failed("on the way back, another secret is chosen")
     see("what was chosen stays")
+    page.choose(say("secret.new"))
     page.tick(say("passphrase.none"))
     create(page)
     page.wait_title(say("paper.title", name="0.0"))

@@ -63,11 +63,13 @@ def answer_passphrase(page, passphrase, noted):
     page.push(say("continue"))
 
 
-def choose_wallet(page, wallet="flag"):
-    """Goes on from the plan, and says which wallet will read the papers."""
+def choose_wallet(page, wallet="flag", words=20):
+    """Goes on from the plan, and says which wallet will read the papers, and how many words it asks for."""
     page.push(say("continue"))
     page.wait_title(say("make.wallet"))
     page.choose(say(f"wallet.{wallet}"))
+    if words != 20:
+        page.choose(say("entry.words", count=words))
     page.push(say("continue"))
     page.wait_title(say("make.secret"))
 
@@ -97,11 +99,9 @@ def make(page, plan_label, wallet, words, passphrase, see, digits=None):
     begin(page, "make")
     see("plan")
     page.choose(plan_label)
-    choose_wallet(page, wallet)
+    choose_wallet(page, wallet, words)
     if digits is not None:
         type_digits(page, digits, digits, FINGERPRINT)
-    elif words == 33:
-        page.choose(say("secret.new32"))
     if passphrase is None:
         page.tick(say("passphrase.none"))
     else:
@@ -116,7 +116,7 @@ def make(page, plan_label, wallet, words, passphrase, see, digits=None):
             break
         papers.append(read_paper(page))
         if len(papers) == 1:
-            page.wait_text("Never photograph a paper.")
+            page.wait_text("the name 0.0 and the words")
             see("paper")
         shown = page.title()
         page.push(say("paper.written"))
@@ -235,6 +235,7 @@ def check_papers(page, see):
     answer_passphrase(page, PASSPHRASE, FINGERPRINT)
     page.push(say("drill.start"))
     page.wait_text(say("verdict.all.noted", quorums=counted(7, "quorum"), fingerprint=FINGERPRINT))
+    page.wait_text(say("quorum.what"))
     page.wait_title(say("check.done.good"))
     if say("again") in page.text():
         raise Failed("a good result is offered to be tried again")
@@ -277,6 +278,7 @@ def check_recover(page, see):
         raise Failed("the digits show before the button is pressed")
     page.push(say("digits.show"))
     page.wait(lambda: SECRET in page.text().replace(" ", ""), "the digits")
+    page.wait_text(say("recover.next"))
     see("recovered")
     if say("again") in page.text():
         raise Failed("a recovery of the noted secret is offered to be tried again")

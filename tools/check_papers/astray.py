@@ -37,7 +37,7 @@ def leave_out_two(owner, papers):
     owner.answer(word_prompt(17), SIGN)
     owner.answer(paper_prompt(1), swapped(papers[4], 9))
     owner.wait(NUMBERED)
-    owner.expect("If they agree, the paper itself is wrong: type ? for up to three words that may be wrong.")
+    owner.expect("If they agree, the paper itself is wrong: type ? for up to 3 words that may be wrong.")
     owner.answer(NUMBERED, SIGN)
 
 
@@ -242,7 +242,7 @@ def check_without():
         owner.answer(say("noted.done"), "")
         owner.prove(owner.noted(), "")
         owner.wait(say("screen.end"))
-        owner.expect("A quorum is a set of papers that is just enough.")
+        owner.expect(say("quorum.what"))
         owner.expect("This backup has no passphrase.")
         owner.expect("This paper alone recovers the secret, so keep it where nobody finds it.")
         silent(owner, "if there is one, in another place")
@@ -353,7 +353,7 @@ def check_unsaid():
             owner.type_paper(paper_prompt(1), THREE_GROUPS[0])
             owner.type_paper(paper_prompt(2), SOUND_PAPER)
             owner.wait(paper_prompt(2))
-            owner.expect("its first two words differ")
+            owner.expect("its first 2 words differ")
             for number, line in enumerate(THREE_GROUPS[1:4], 2):
                 owner.type_paper(paper_prompt(number), line)
             owner.forget()

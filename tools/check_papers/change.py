@@ -140,6 +140,18 @@ def check_wrong():
         owner.end(0, "closed.changing")
 
 
+def check_mark(owner):
+    """The first paper is shown with the line that the old papers are to be marked: at another size too, and after words that came too early."""
+    for change in (None, (100, 30), (80, 24), "acid"):
+        if change == "acid":
+            owner.answer(say("new.write"), change)
+        elif change:
+            owner.resize(*change)
+        owner.wait(say("new.write"))
+        if say("change.mark") not in " ".join(owner.screen().split()):
+            raise Failed(f"after {change}, the screen doesn't say that the old papers are to be marked: {owner.screen()}")
+
+
 def check_ways():
     """An Enter too many and ways back lose nothing. Until old and new papers agree, whoever ends is told to keep the old ones."""
     old, noted = backup("2of3", False)
@@ -161,7 +173,7 @@ def check_ways():
         owner.answer(say("new.plan.sure"), "")
         owner.answer(say("new.plan.sure"), "u")
         owner.answer(wallet, "1")
-        owner.wait(say("new.write"))
+        check_mark(owner)
         line = owner.words()
         owner.type("\x04")
         owner.wait(END)

@@ -1,5 +1,5 @@
 """Papers that are pasted at once: each is judged, and nothing is dropped without a word."""
-from hands import Failed, counted, say
+from hands import END, Failed, counted, say
 from refusals import end_by_keys, rows_of, started, word_prompt
 from slips import papers_of
 from tasks import SIGN, SOUND_PAPER, name_of, paper_prompt
@@ -150,7 +150,28 @@ def check_cut():
         end_by_keys(owner)
 
 
-CHECKS = [check_many, check_misspelt, check_rows, check_elsewhere, check_dropped, check_back, check_cut]
+def check_answers():
+    """Papers that are pasted where an answer is asked for, such as whether to end: they are dropped as a whole, which is told once."""
+    papers = papers_of("2of3")
+    for first_line in ("", "academic\n"):
+        with started("check") as owner:
+            owner.answer(paper_prompt(1), papers[0])
+            owner.wait(paper_prompt(2))
+            owner.type("\x03")
+            owner.wait(END)
+            owner.forget()
+            owner.type(first_line + "".join(f"{line}\n" for line in papers[1:]))
+            owner.expect(say("screen.dropped"))
+            owner.wait(END)
+            if owner.emulator.all_seen().count(say("screen.answers", answers="y, yes, n, no")) != 1:
+                raise Failed(f"lines of a paste that begins with {first_line!r} are taken as answers")
+            owner.answer(END, "n")
+            owner.answer(paper_prompt(2), papers[1])
+            owner.wait(paper_prompt(3))
+            end_by_keys(owner)
+
+
+CHECKS = [check_answers, check_many, check_misspelt, check_rows, check_elsewhere, check_dropped, check_back, check_cut]
 
 
 def check(see):

@@ -4,6 +4,7 @@ from refusals import NUMBERED, back_prompt, end_by_keys, started, word_prompt
 from tasks import FINGERPRINT, PASSPHRASE, SECRET, SIGN, SOUND_PAPER, THREE_GROUPS, Owner, paper_prompt
 
 import plain
+import shamir
 
 MENU = say("home.choose")
 
@@ -22,7 +23,13 @@ def check_new():
         owner.expect(say("refused.31"))
         owner.answer(say("new.wallet"), "")
         owner.answer(say("new.wallet"), "2")
-        owner.answer(say("new.secret"), "4")
+        owner.expect(say("wallet.flag.hint", version=shamir.__version__))
+        owner.answer(say("new.words"), "3")
+        owner.answer(say("new.words"), "b")
+        owner.answer(say("new.wallet"), "2")
+        owner.answer(say("new.words"), "33")
+        owner.answer(say("new.secret"), "3")
+        owner.expect(say("secret.new.hint", bytes=32, words=33))
         owner.answer(say("new.secret"), "m")
         owner.answer(say("new.exponent"), "b")
         owner.answer(say("new.secret"), "m")
@@ -31,7 +38,7 @@ def check_new():
         owner.expect(say("more.exponent.wrong"))
         owner.answer("and much longer on a hardware wallet. Is that right? (y/n)", "n")
         owner.answer(say("new.exponent"), "0")
-        owner.answer(say("new.secret"), "3")
+        owner.answer(say("new.secret"), "2")
         type_own_secret(owner)
         owner.answer(say("new.passphrase"), "Straße")
         owner.answer(say("new.passphrase"), "")
@@ -55,6 +62,9 @@ def check_new():
         owner.expect(f"[ok] {say('verdict.all.noted', quorums='3 quorums', fingerprint=FINGERPRINT)}")
         owner.expect(say("make.restore"))
         owner.expect(say("make.own"))
+        # The drill said it too, on the screen before.
+        owner.forget()
+        owner.expect(say("quorum.what"))
         owner.answer(say("screen.end"), "e")
         owner.end(0)
         fields = plain.parse(papers[0].encode())
@@ -294,16 +304,23 @@ def check_back():
         owner.answer(MENU, "new")
         owner.answer(plan, "2")
         owner.answer(wallet, "1")
+        owner.answer(say("new.words"), "33")
         owner.answer(secret, "B")
         owner.answer(wallet, "b")
         owner.answer(plan, "1")
         owner.answer(wallet, "3")
-        owner.answer(secret, "3")
+        owner.answer(say("new.words"), "33")
+        owner.answer(secret, "2")
         owner.answer(say("new.secret.digits"), "b")
         owner.answer(secret, "1")
         owner.answer(say("new.passphrase"), "")
         owner.answer(f"{say('new.passphrase.none')} {say('screen.yes.back')}", "b")
-        owner.wait(secret)
+        owner.answer(secret, "1")
+        owner.answer(say("new.passphrase"), "")
+        owner.answer(f"{say('new.passphrase.none')} {say('screen.yes.back')}", "y")
+        owner.wait(say("new.write"))
+        if len(owner.words().split()) != 33:
+            raise Failed("the number of words that the wallet asks for isn't that of the papers")
         owner.expect(say("plan.sentence.any", needed=2, members=3))
         end_by_keys(owner)
     with started("new", "2of3") as owner:

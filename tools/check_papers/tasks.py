@@ -61,10 +61,11 @@ class Owner(Session):
         self.reply(say("safety.go"), "")
 
     def settle(self, wallet="1"):
-        """Takes the plan, also if one paper of it is dangerous, and says which wallet reads the papers."""
+        """Takes the plan, also if one paper of it is dangerous, and says which wallet reads the papers. A new secret has 20 words."""
         if self.wait(say("new.plan.sure"), say("new.wallet")) == say("new.plan.sure"):
             self.reply(say("new.plan.sure"), "u")
         self.reply(say("new.wallet"), wallet)
+        self.reply(say("new.words"), "")
 
     def prove(self, noted, passphrase):
         """Types what was noted, as the program asks before it says that a backup is made."""
@@ -133,7 +134,7 @@ def make(owner, passphrase, names, secret=None, known=""):
     if secret is None:
         owner.reply(say("new.secret"), "")
     else:
-        owner.reply(say("new.secret"), "3")
+        owner.reply(say("new.secret"), "2")
         owner.hidden(say("new.secret.digits"), secret)
         owner.hidden(say("new.secret.again"), secret)
         owner.reply(say("noted.ask"), known)
@@ -198,6 +199,8 @@ def check_recover(papers, noted):
         if digits != secret_of(papers, PASSPHRASE):
             raise Failed("the digits that are shown aren't those of the secret")
         owner.reply(owner.question("recover.clear"), "")
+        owner.wait(say("next.good"))
+        owner.expect(say("recover.next"))
         owner.reply(say("next.good"), "e")
         owner.end(0)
         owner.within(12)

@@ -584,6 +584,10 @@ class TextTests(unittest.TestCase):
     def test_questions_are_english(self):
         self.assertEqual([key for key, text in TABLE.items() if re.search(r"How many \w+ has\b", text)], [])
 
+    def test_numbers_are_digits(self):
+        spelt = re.compile(r"\b(two|three|four|five|six|seven|eight|nine|ten|twelve|twenty)\b", re.IGNORECASE)
+        self.assertEqual([key for key, text in TABLE.items() if spelt.search(text)], [])
+
     def test_sentences_are_ascii(self):
         for key in OWN:
             self.assertTrue(TABLE[key].isascii(), key)

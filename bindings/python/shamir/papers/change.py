@@ -137,6 +137,7 @@ def _tell_done(screen: Screen, desk: Desk, plan: Plan, verdict: Verdict) -> None
     screen.clear(say("change.done"))
     for sentence in verdict.sentences:
         screen.tell(sentence, "" if verdict.is_own else "good")
+    screen.tell(say("quorum.what"))
     screen.tell(say("change.restore"), "strong")
     screen.tell(noted_plan(plan))
     # Without the noted fingerprint, nothing shows that a passphrase or a found word was right.

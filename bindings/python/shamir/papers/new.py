@@ -45,7 +45,7 @@ def _plan_and_papers(screen: Screen, desk: Desk, given: Optional[str], choices: 
 
 def _wallet_and_papers(screen: Screen, desk: Desk, plan: Plan, choices: Choices) -> Tuple[List[Paper], str]:
     while True:
-        ask_wallet(screen, say("make.wallet"), choices)
+        ask_wallet(screen, say("make.wallet"), choices, asks_words=True)
         try:
             return _create(screen, desk, plan, choices)
         except Back:
@@ -77,6 +77,7 @@ def _tell_done(screen: Screen, plan: Plan, choices: Choices, verdict: Verdict) -
     screen.clear(say("make.done"))
     for sentence in verdict.sentences:
         screen.tell(sentence, "" if verdict.is_own else "good")
+    screen.tell(say("quorum.what"))
     screen.tell(noted_plan(plan))
     screen.tell(say("make.restore"))
     keep = say("make.keep" if len(plan.names) > 1 else "make.keep.one")

@@ -81,6 +81,7 @@ def _tell(screen: Screen, desk: Desk, secret: bytearray, noted: str, has_passphr
         wipe(secret)
     if which == "same":
         screen.hold("")
+    screen.tell(f"{say('recover.next.title')}: {say('recover.next')}")
     tell_damaged(screen, desk)
     return ask_next(screen, "good" if which == "same" else "unnoted")
 

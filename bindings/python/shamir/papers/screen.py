@@ -12,7 +12,7 @@ import time
 from typing import Callable, Dict, Generic, Iterable, List, Optional, Sequence, Tuple, TypeVar
 
 from shamir.papers.line import ENTER, Completer, Line, first_key, wipe
-from shamir.papers.terminal import Ended, Resized, Terminal
+from shamir.papers.terminal import PASTE_SECONDS, Ended, Resized, Terminal
 from shamir.papers.texts import said_time, say
 
 T = TypeVar("T")
@@ -207,11 +207,14 @@ class Screen:
         return text, is_cut
 
     def choose(self, prompt: str, answers: Dict[str, T], default: Optional[str] = None, has_back: bool = False, is_hidden: bool = False) -> T:
-        """Asks until one of the answers is given, or none if there is a default. A hidden answer doesn't show."""
+        """Asks until one of the answers is given, or none if there is a default. A hidden answer doesn't show. If a paste comes in place of an
+        answer, it is dropped as a whole, and not taken line by line."""
         while True:
             typed = self.ask(prompt, has_back=has_back, is_hidden=is_hidden).strip().lower() or default or ""
             if typed in answers:
                 return answers[typed]
+            if self.is_pasted(PASTE_SECONDS):
+                self.drop_typed()
             told = [key or "Enter" for key in answers] + [BACK] * has_back
             self.tell(say("screen.answers", answers=", ".join(told)), "bad")
 
@@ -220,12 +223,16 @@ class Screen:
         how = say("screen.yes.back" if has_back else "screen.yes")
         return self.choose(f"{prompt} {how}", {"y": True, "yes": True, "n": False, "no": False}, has_back=has_back, is_hidden=is_hidden)
 
-    def redrawn(self, draw: Callable[[], T]) -> T:
-        """Returns what a call gives that shows a screen. If the terminal gets another size before that, it is called again."""
-        while True:
+    def show_until(self, draw: Callable[[], bool]) -> None:
+        """Calls what shows a screen until it returns that the owner goes on, and again if the terminal gets another size. What was to be
+        shown after the title is shown each time."""
+        notice = self._notice, self._notice_style
+        is_done = False
+        while not is_done:
+            self._notice, self._notice_style = notice
             self._terminal.tells_size = True
             try:
-                return draw()
+                is_done = draw()
             except Resized:
                 continue
             finally:

@@ -17,46 +17,69 @@ from shamir.papers.texts import said_time, say
 
 # A new backup has what the reference implementation gives it.
 EXPONENT = 1
+# How many bytes a new secret has, by the number of words on each paper.
+BYTES = {20: 16, 33: 32}
 HEXADECIMAL = b"0123456789abcdefABCDEF"
 
 
 @dataclass
 class Choices:
-    """What the owner chose beside the plan. `is_own` says that the secret isn't a new one."""
+    """What the owner chose beside the plan. `is_own` says that the secret isn't a new one, and `words` is how many words each paper of a new
+    one has."""
 
     is_own: bool = False
     has_passphrase: bool = False
     exponent: int = EXPONENT
     extendable: bool = False
+    words: int = 20
 
 
 def ask_secret(screen: Screen, choices: Choices) -> bytearray:
     """Returns a new secret, or the owner's own. The owner may go back to the plan."""
     screen.tell(say("secret.legend"))
-    for number, key in enumerate(["new16", "new32", "own"], 1):
-        screen.item(f"{say(f'secret.{key}')}. {say(f'secret.{key}.hint')}", f"{number}  ")
+    size = BYTES[choices.words]
+    for number, key in enumerate(["new", "own"], 1):
+        screen.item(f"{say(f'secret.{key}')}. {say(f'secret.{key}.hint', bytes=size, words=choices.words)}", f"{number}  ")
     screen.gap()
     while True:
-        answer = screen.choose(say("new.secret"), {"1": 16, "2": 32, "3": 0, "m": -1}, "1", has_back=True)
-        choices.is_own = answer == 0
+        answer = screen.choose(say("new.secret"), {"1": "new", "2": "own", "m": "more"}, "1", has_back=True)
+        choices.is_own = answer == "own"
         try:
-            if answer < 0:
+            if answer == "more":
                 _ask_more(screen, choices)
             else:
-                return drawn(answer) if answer else _ask_own(screen)
+                return _ask_own(screen) if choices.is_own else drawn(size)
         except Back:
             continue
 
 
-def ask_wallet(screen: Screen, title: str, choices: Choices) -> None:
-    """Asks which wallet will read the papers. The answer says whether they get the extendable flag. The owner may go back."""
-    screen.clear(title)
-    screen.tell(say("wallet.legend"))
-    for number, key in enumerate(["flag", "older", "unknown"], 1):
-        screen.item(f"{say(f'wallet.{key}')}. {say(f'wallet.{key}.hint')}", f"{number}  ")
+def ask_wallet(screen: Screen, title: str, choices: Choices, asks_words: bool = False) -> None:
+    """Asks which wallet will read the papers, and how many words it asks for if there may be a new secret. The answers say whether the
+    papers get the extendable flag, and how long a new secret is. The owner may go back."""
+    while True:
+        screen.clear(title)
+        screen.tell(say("wallet.legend"))
+        for number, key in enumerate(["flag", "older", "unknown"], 1):
+            screen.item(f"{say(f'wallet.{key}')}. {say(f'wallet.{key}.hint', version=shamir.__version__)}", f"{number}  ")
+        screen.gap()
+        screen.tell(say("wallet.what"))
+        choices.extendable = screen.choose(say("new.wallet"), {"1": True, "2": False, "3": False}, has_back=True)
+        try:
+            if asks_words:
+                _ask_words(screen, choices)
+            return
+        except Back:
+            continue
+
+
+def _ask_words(screen: Screen, choices: Choices) -> None:
+    """Asks how many words each paper of a new secret is to have. The owner may go back."""
+    screen.tell(say("wallet.words"))
+    for count in BYTES:
+        screen.item(f"{say('entry.words', count=count)}. {say(f'wallet.words.{count}.hint')}")
     screen.gap()
-    screen.tell(say("wallet.what"))
-    choices.extendable = screen.choose(say("new.wallet"), {"1": True, "2": False, "3": False}, has_back=True)
+    screen.tell(say("wallet.words.own"))
+    choices.words = screen.choose(say("new.words"), {str(count): count for count in BYTES}, "20", has_back=True)
 
 
 def make_papers(screen: Screen, desk: Desk, plan: str, secret: bytearray, choices: Choices) -> Tuple[List[Paper], str]:

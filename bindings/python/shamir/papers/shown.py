@@ -30,17 +30,19 @@ def show_paper(screen: Screen, shown: Shown) -> None:
     fault = ""
 
     def draw() -> bool:
+        nonlocal fault
         screen.clear(shown.title("paper.title"))
         if fault:
             screen.tell(fault, "bad")
         screen.tell(shown.takes)
-        screen.tell(say("paper.how"))
+        screen.tell(say("paper.how", name=shown.paper.name))
         screen.words(shown.paper.words)
-        return screen.pause(say("new.write.plain" if screen.is_plain else "new.write"))
+        is_alone = screen.pause(say("new.write.plain" if screen.is_plain else "new.write"))
+        fault = "" if is_alone else say("new.write.alone")
+        return is_alone
 
     # In a terminal of another size, the words are laid out anew.
-    while not screen.redrawn(draw):
-        fault = say("new.write.alone")
+    screen.show_until(draw)
     screen.clear("")
 
 
