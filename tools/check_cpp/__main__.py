@@ -72,7 +72,7 @@ def check_compiler(compiler, folder):
     """Runs the tests over both libraries."""
     portable = f"{folder}/{compiler}.o"
     run([COMPILERS[compiler], "-O0", "-c", str(ROOT / "dist" / "c" / "shamir.c"), "-o", portable])
-    for standard, flags, library in [("c++17", ["-O1", *SANITIZED], ROOT / "libshamir.a"), ("c++20", ["-O2"], portable)]:
+    for standard, flags, library in [("c++17", SANITIZED, ROOT / "libshamir.a"), ("c++20", ["-O2"], portable)]:
         program = f"{folder}/tests-{compiler}-{standard}"
         run([compiler, f"-std={standard}", *STRICT, *flags, str(HERE / "tests.cpp"), str(library), "-o", program])
         run([program])
@@ -115,7 +115,7 @@ def differences(batch):
 def check_cases(compiler, folder, count, seed):
     """Compares generated cases, and returns how many."""
     program = f"{folder}/answers"
-    run([compiler, "-std=c++17", *STRICT, "-O1", *SANITIZED, str(HERE / "answers.cpp"), str(ROOT / "libshamir.a"), "-o", program])
+    run([compiler, "-std=c++17", *STRICT, *SANITIZED, str(HERE / "answers.cpp"), str(ROOT / "libshamir.a"), "-o", program])
     batches = [(range(at, min(at + BATCH, count)), seed, program) for at in range(0, count, BATCH)]
     tried = 0
     with multiprocessing.get_context("fork").Pool() as pool:
@@ -128,7 +128,7 @@ def check_cases(compiler, folder, count, seed):
 
 def main():
     parser = argparse.ArgumentParser()
-    parser.add_argument("--cases", type=int, default=1000)
+    parser.add_argument("--cases", type=int, default=400)
     parser.add_argument("--seed", type=int, default=39)
     args = parser.parse_args()
     check_calls()
