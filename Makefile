@@ -20,7 +20,7 @@
 #                    check-recipes, which runs alone too
 #   make check       runs the fast checks. They cover the documents, examples of doc comments, manual pages, completions,
 #                    terminals, values from files, refused allocations, the library and the packages
-#   make check-library   checks the library alone: its header, examples in C, the Python binding, the cuts of a drill, generated
+#   make check-library   checks the library alone: its headers, examples, the Python binding, the cuts of a drill, generated
 #                    cases, and the vectors; and the JavaScript package and the Rust crate
 #   make check-page  checks shamir.html in Chromium and in Firefox: each task by keyboard, each refusal, what the browser keeps; and
 #                    its tasks in WebKit
@@ -205,7 +205,7 @@ twins:
 
 # Each sum of checks first builds what its checks need. Then it runs them side by side: as many as JOBS says, or as many as -j says.
 # Those that take longest come first. tools/part writes the name of a check before each of its lines.
-LIBRARY_CHECKS = check-rust check-header check-vectors check-cuts check-js
+LIBRARY_CHECKS = check-rust check-header check-cpp check-clients check-vectors check-cuts check-js
 PACKAGES_CHECKS = check-debs check-installed
 SECRETS_CHECKS = check-leftovers check-timing
 PAGE_PARTS = privacy change refusals tasks journey entry looks astray hasty long agreement ways
@@ -287,6 +287,12 @@ check-allocations: shamir
 
 check-header: shamir libshamir.so $(SONAME)
 	$(PART) tools/library
+
+check-cpp: libshamir.so
+	$(PART) $(PYTHON) tools/check_cpp
+
+check-clients: libshamir.so $(if $(WASM_OPT),shamir32.wasm)
+	$(PART) tools/clients
 
 check-cuts: shamir libshamir.so
 	$(PART) tools/cuts
@@ -375,12 +381,12 @@ install-lib:
 	@for file in libshamir.a libshamir.so; do \
 	test -f $(BUILT)/$$file || { echo "make install-lib: $(BUILT)/$$file isn't here: 'make lib' proves and builds it" >&2; exit 1; }; done
 	$(INSTALL) -d "$(DESTDIR)$(LIBDIR)/pkgconfig" "$(DESTDIR)$(INCLUDEDIR)" "$(DESTDIR)$(MANDIR)/man3" "$(DESTDIR)$(DOCDIR)/docs" \
-		"$(DESTDIR)$(DOCDIR)/examples/c"
+		"$(DESTDIR)$(DOCDIR)/examples/c" "$(DESTDIR)$(DOCDIR)/examples/cpp"
 	$(INSTALL) -m 644 $(BUILT)/libshamir.a "$(DESTDIR)$(LIBDIR)/libshamir.a"
 	$(INSTALL) -m 644 $(BUILT)/libshamir.so "$(DESTDIR)$(LIBDIR)/libshamir.so.$(VERSION)"
 	ln -sf libshamir.so.$(VERSION) "$(DESTDIR)$(LIBDIR)/$(SONAME)"
 	ln -sf $(SONAME) "$(DESTDIR)$(LIBDIR)/libshamir.so"
-	$(INSTALL) -m 644 include/shamir.h "$(DESTDIR)$(INCLUDEDIR)/shamir.h"
+	$(INSTALL) -m 644 include/shamir.h include/shamir.hpp "$(DESTDIR)$(INCLUDEDIR)"
 	sed 's|@PREFIX@|$(PREFIX)|; s|@LIBDIR@|$(LIBDIR:$(PREFIX)/%=$${prefix}/%)|; s|@INCLUDEDIR@|$(INCLUDEDIR:$(PREFIX)/%=$${prefix}/%)|; s|@VERSION@|$(VERSION)|' \
 		include/shamir.pc.in > "$(DESTDIR)$(LIBDIR)/pkgconfig/shamir.pc"
 	chmod 644 "$(DESTDIR)$(LIBDIR)/pkgconfig/shamir.pc"
@@ -389,6 +395,7 @@ install-lib:
 	$(INSTALL) -m 644 $(DOCUMENTS) "$(DESTDIR)$(DOCDIR)"
 	$(INSTALL) -m 644 docs/*.md docs/*.png "$(DESTDIR)$(DOCDIR)/docs"
 	$(INSTALL) -m 644 examples/c/*.c "$(DESTDIR)$(DOCDIR)/examples/c"
+	$(INSTALL) -m 644 examples/cpp/*.cpp "$(DESTDIR)$(DOCDIR)/examples/cpp"
 	@test -n "$(DESTDIR)" || PATH="$$PATH:/usr/sbin:/sbin" LDCONFIG="$(LDCONFIG)" packaging/loader "$(LIBDIR)" $(SONAME)
 
 install-page:
@@ -414,7 +421,7 @@ uninstall:
 	rm -f "$(DESTDIR)$(BINDIR)/shamir" "$(DESTDIR)$(MANDIR)/man1/shamir.1"
 	rm -f "$(DESTDIR)$(BASHDIR)/shamir" "$(DESTDIR)$(ZSHDIR)/_shamir" "$(DESTDIR)$(FISHDIR)/shamir.fish"
 	rm -f "$(DESTDIR)$(LIBDIR)/libshamir.a" "$(DESTDIR)$(LIBDIR)/libshamir.so" "$(DESTDIR)$(LIBDIR)/$(SONAME)" "$(DESTDIR)$(LIBDIR)/libshamir.so.$(VERSION)"
-	rm -f "$(DESTDIR)$(LIBDIR)/pkgconfig/shamir.pc" "$(DESTDIR)$(INCLUDEDIR)/shamir.h"
+	rm -f "$(DESTDIR)$(LIBDIR)/pkgconfig/shamir.pc" "$(DESTDIR)$(INCLUDEDIR)/shamir.h" "$(DESTDIR)$(INCLUDEDIR)/shamir.hpp"
 	rm -f "$(DESTDIR)$(PAGEDIR)/shamir.html"
 	rm -f "$(DESTDIR)$(BINDIR)/shamir-papers" "$(DESTDIR)$(MANDIR)/man1/shamir-papers.1"
 	rm -f "$(DESTDIR)$(BASHDIR)/shamir-papers" "$(DESTDIR)$(ZSHDIR)/_shamir-papers" "$(DESTDIR)$(FISHDIR)/shamir-papers.fish"
@@ -422,8 +429,8 @@ uninstall:
 	rmdir "$(DESTDIR)$(PYTHONDIR)" 2> /dev/null; true
 	rmdir "$(DESTDIR)$(PAGEDIR)" 2> /dev/null; true
 	for page in shamir $$($(CALLS)); do rm -f "$(DESTDIR)$(MANDIR)/man3/$$page.3"; done
-	cd "$(DESTDIR)$(DOCDIR)" && rm -f $(DOCUMENTS) docs/*.md docs/*.png examples/*.txt examples/*.sh examples/c/*.c && \
-	rmdir examples/c examples docs "$$(pwd)" 2> /dev/null; true
+	cd "$(DESTDIR)$(DOCDIR)" && rm -f $(DOCUMENTS) docs/*.md docs/*.png examples/*.txt examples/*.sh examples/c/*.c examples/cpp/*.cpp && \
+	rmdir examples/c examples/cpp examples docs "$$(pwd)" 2> /dev/null; true
 
 wheel:
 	$(PYTHON) tools/wheel $(FOR_TARGET)

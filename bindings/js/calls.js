@@ -11,6 +11,8 @@ import { copied } from "./copies.js";
 // takes less than 0.03 ms.
 const STACK_BYTES = 524288;
 const PAGE_BYTES = 65536;
+// A memory can't shrink. So if it grew beyond this length, the next call uses a new instance.
+const LARGE_BYTES = 4194304;
 export const ANSWER_BYTES = 40;
 
 /** An output of a call: the engine gets its address and its length. */
@@ -128,7 +130,7 @@ export class Calls {
 
   /**
    * Makes a call, and clears all that it may have written. If the call traps, the whole memory is cleared, and the next call
-   * uses a new instance.
+   * uses a new instance. So it does after a call that needed a large memory.
    * @param {string} name
    * @param {Part[]} parts
    * @returns {Answer}
@@ -150,6 +152,7 @@ export class Calls {
       throw error;
     } finally {
       new Uint8Array(exports.memory.buffer).fill(0, 0, STACK_BYTES).fill(0, places.base, places.end);
+      if (exports.memory.buffer.byteLength > LARGE_BYTES) this.#instance = null;
     }
   }
 

@@ -68,8 +68,22 @@ export function flag(value, what) {
 }
 
 /**
+ * Refuses what isn't an object, and an object that inherits from another one than `Object.prototype`: a copy of it, as a worker gets one,
+ * lacks what it inherits.
+ * @param {unknown} options
+ * @param {string} what
+ */
+export function plain(options, what = "the options of this call") {
+  if (typeof options !== "object" || options === null) throw new TypeError(`${what} aren't in an object`);
+  const above = Object.getPrototypeOf(options);
+  if (above !== null && !(Object.getPrototypeOf(above) === null && Object.hasOwn(above, "hasOwnProperty"))) {
+    throw new TypeError(`${what} aren't in a plain object`);
+  }
+}
+
+/**
  * Returns the options of a call, or the fields of an object. Another name than these is refused, because a misspelt `passphrase` would
- * stand for no passphrase, and a share isn't an encrypted secret.
+ * stand for no passphrase, and a share isn't an encrypted secret. So is one of these that somebody put into `Object.prototype`.
  * @template T
  * @param {T} options
  * @param {(keyof T)[]} names
@@ -77,9 +91,10 @@ export function flag(value, what) {
  * @returns {T}
  */
 export function known(options, names, what = "the options of this call") {
-  if (typeof options !== "object" || options === null) throw new TypeError(`${what} aren't in an object`);
-  const given = /** @type {(keyof T)[]} */ (Object.keys(options));
+  plain(options, what);
+  const given = /** @type {(keyof T)[]} */ (Object.keys(/** @type {object} */ (options)));
   if (!given.every((name) => names.includes(name))) throw new TypeError(`${what} are ${names.join(", ")}`);
+  if (names.some((name) => name in Object.prototype)) throw new TypeError(`Object.prototype has one of ${names.join(", ")}`);
   return options;
 }
 

@@ -231,9 +231,22 @@ export interface ResplitOptions {
   random?: Uint8Array | undefined;
 }
 
-export interface DrillOptions extends RecoverOptions {
+interface AnyDrillOptions extends RecoverOptions {
   /** The names of a quorum. The drill starts with the next one. If it is left out, the drill starts with the first. */
   after?: Text | undefined;
-  /** Whether outcomes have fingerprints instead of secrets. If it is left out, they have secrets. It can't stand with `expect`. */
-  fingerprints?: boolean | undefined;
 }
+
+/** The options of a drill that gives secrets or fingerprints. */
+export interface ListingOptions extends AnyDrillOptions {
+  /** Whether outcomes have fingerprints instead of secrets. If it is left out, they have secrets. */
+  fingerprints?: boolean | undefined;
+  expect?: undefined;
+}
+
+/** The options of a drill that compares fingerprints. */
+export interface ComparingOptions extends AnyDrillOptions {
+  fingerprints?: false | undefined;
+}
+
+/** `fingerprints` and `expect` can't stand together. */
+export type DrillOptions = ListingOptions | ComparingOptions;

@@ -10,6 +10,7 @@
  * Each call copies its arguments into the worker. Whoever clears arguments can't clear these copies: `end` drops them all.
  */
 import { refusalOf } from "./clones.js";
+import { plain } from "./copies.js";
 
 /** @typedef {import("./types.js").CreateOptions} CreateOptions */
 /** @typedef {import("./types.js").DecryptOptions} DecryptOptions */
@@ -54,6 +55,14 @@ async function started(take, fail) {
  */
 function copyable(lines) {
   return typeof lines === "string" || lines instanceof Uint8Array ? lines : [...lines];
+}
+
+/**
+ * Refuses options, or an encrypted secret, whose copy in the worker would lack what they inherit.
+ * @param {unknown[]} given
+ */
+function checkPlain(given) {
+  for (const it of given) if (typeof it === "object" && it !== null && !Array.isArray(it) && !ArrayBuffer.isView(it)) plain(it);
 }
 
 /** The engine in a worker of its own, which starts at the first call. Calls run one after the other. */
@@ -128,6 +137,7 @@ export class InWorker {
    */
   async *drill(lines, options = {}, signal) {
     const given = copyable(lines);
+    plain(options);
     for (let after = options.after, isEnd = false; !isEnd; ) {
       const part = await this.#call("drill", [given, { ...options, after }], signal);
       yield* part.outcomes;
@@ -222,6 +232,7 @@ export class InWorker {
   #call(name, given, signal) {
     const run = async () => {
       signal?.throwIfAborted();
+      checkPlain(given);
       this.#side ??= started((message) => this.#take(message), (error) => this.#fail(error));
       const side = await this.#side;
       return this.#answer(side, { name, given, module: this.#module }, signal);

@@ -25,7 +25,7 @@ def is_installed(folder: str) -> None:
     run(["cmake", "--build", build])
     run(["ctest", "--output-on-failure"], cwd=build)
     run(["cmake", "--install", build])
-    for name in ["include/shamir.h", "lib/libshamir.a", "lib/libshamir.so.1", "lib/libshamir.so", "lib/pkgconfig/shamir.pc"]:
+    for name in ["include/shamir.h", "include/shamir.hpp", "lib/libshamir.a", "lib/libshamir.so.1", "lib/libshamir.so", "lib/pkgconfig/shamir.pc"]:
         if not pathlib.Path(prefix, name).exists():
             raise Failed(f"CMake doesn't install {name}")
     user.mkdir()

@@ -206,6 +206,16 @@ test("after a trap the whole memory is cleared, and the next call has a new inst
   assertClear();
 });
 
+test("after a call that needed much memory, the next call has a new instance, and the large memory is clear", () => {
+  const before = instances.at(-1);
+  const lines = `${`# ${"a note ".repeat(100)}\n`.repeat(10000)}${TWO.join("\n")}`;
+  assert.deepEqual(shamir.recover(lines, { passphrase: "TREZOR" }), shamir.recover(TWO, { passphrase: "TREZOR" }));
+  assert.ok(before.exports.memory.buffer.byteLength > lines.length);
+  assertClear(before);
+  assert.notEqual(instances.at(-1), before);
+  assert.ok(instances.at(-1).exports.memory.buffer.byteLength < 2 ** 21);
+});
+
 test("lines that don't fit into the greatest memory are a RangeError, and the engine goes on", () => {
   const { memory } = instances.at(-1).exports;
   const lines = new Uint8Array(memory.buffer.byteLength).fill(35);

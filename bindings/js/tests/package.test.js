@@ -54,6 +54,11 @@ test("a refusal in a worker", async () => {
   const shamir = new InWorker(MODULE);
   await assert.rejects(shamir.recover([ONE, TWO[0]]), (error) => error instanceof Refusal && error.code === 21 && error.line === 2);
   await assert.rejects(shamir.recover(FIVE, { passphrase: 6 }), TypeError);
+  for (const options of [Object.create(KEY), "TREZOR", null]) {
+    await assert.rejects(shamir.recover(FIVE, options), TypeError);
+    await assert.rejects(shamir.drill(FIVE, options).next(), TypeError);
+  }
+  await assert.rejects(shamir.decrypt(Object.create(ENCRYPTED[0]), KEY), TypeError);
   shamir.end();
 });
 

@@ -115,6 +115,35 @@ test("options are named, and each name is known", () => {
   assert.deepEqual(shamir.recover(FIVE, { passphrase: undefined, maxExponent: undefined }), shamir.recover(FIVE));
 });
 
+test("options that are inherited are noticed", () => {
+  class Options {
+    get passphrase() {
+      return "TREZOR";
+    }
+  }
+  const held = Object.assign(Object.create(null), { passphrase: "TREZOR" });
+  for (const options of [Object.create({ passphrase: "TREZOR" }), new Options(), Object.create(held), new Map(), []]) {
+    for (const call of [
+      () => shamir.create(PLAN, SECRET, options),
+      () => shamir.recover(FIVE, options),
+      () => shamir.drill(FIVE, options),
+      () => shamir.resplit(PLAN, FIVE, options),
+      () => shamir.decrypt(ENCRYPTED[0], options),
+    ]) {
+      assert.throws(call, (error) => error instanceof TypeError && !/TREZOR/.test(error.message), call.toString());
+    }
+  }
+  assert.throws(() => shamir.decrypt(Object.create(ENCRYPTED[0]), { passphrase: "TREZOR" }), TypeError);
+  assert.deepEqual(shamir.recover(FIVE, held), SECRET);
+  assert.deepEqual(shamir.recover(FIVE, vm.runInNewContext('({ passphrase: "TREZOR" })')), SECRET);
+  try {
+    Object.prototype.passphrase = "TREZOR";
+    for (const call of [() => shamir.create(PLAN, SECRET), () => shamir.recover(FIVE, {})]) assert.throws(call, TypeError);
+  } finally {
+    delete Object.prototype.passphrase;
+  }
+});
+
 test("numbers out of range are RangeErrors", () => {
   for (const call of [
     ...[2 ** 32, -1, 1.5, NaN, Infinity].map((exponent) => () => shamir.create(PLAN, SECRET, { exponent })),

@@ -30,7 +30,9 @@ version number than the package, it raises ImportError.
 Calls share no data, so any number of threads can make calls at once. A call uses at most 512 KiB of stack. A call in a
 thread with a smaller `threading.stack_size` can crash the program; 1,048,576 is enough for every call. The library
 clears the stack of each call that gets a secret, and the package the buffer of its output. It doesn't clear what Python
-keeps: the arguments, their copies, the random bytes that it draws, and the results.
+keeps: the arguments, their copies, the random bytes that it draws, and the results. `recover_into`, `encrypted_into` and
+`decrypt_into` leave nothing secret but in the buffers of their caller, who can clear a bytearray. A drill with fingerprints, or
+with an expected one, gets no secret from the library.
 """
 from __future__ import annotations
 
@@ -46,8 +48,8 @@ from typing import Any, Callable, Generator, Iterable, List, Optional, Tuple, Un
 
 __all__ = ["Code", "Data", "EXPONENT_MAX", "EncryptedSecret", "GroupStatus", "Lines", "OF_GROUPS", "Outcome", "Refusal"]
 __all__ += ["Share", "Status", "Text"]
-__all__ += ["create", "decrypt", "drill", "encrypted", "fingerprint", "library_version", "parse", "quorums", "random_needed", "recover"]
-__all__ += ["reissue", "repair", "resplit", "status", "words"]
+__all__ += ["create", "decrypt", "decrypt_into", "drill", "encrypted", "encrypted_into", "fingerprint", "library_version", "parse", "quorums"]
+__all__ += ["random_needed", "recover", "recover_into", "reissue", "repair", "resplit", "status", "words"]
 
 __version__ = "1.0.0"
 
@@ -57,6 +59,8 @@ Data = Union[bytes, bytearray, memoryview, "array.array[Any]", mmap.mmap]
 Text = Union[str, Data]
 # One text of lines, or an iterable of lines. A line of an iterable may end with a line feed.
 Lines = Union[Text, Iterable[Text]]
+# The same without a str, which can't be cleared.
+ClearableLines = Union[Data, Iterable[Data]]
 
 # These buffer lengths are always enough. Their names are those of shamir.h.
 SECRET_BYTES_MAX = 128
@@ -313,13 +317,13 @@ class EncryptedSecret:
 
     `id` is the identifier of the backup, 0 to 32767, and `exponent` the iteration exponent, 0 to 15. `value` is as long as the
     secret. Whoever has it can test guesses of the passphrase, and without a passphrase it is as secret as the secret itself. The
-    repr leaves it out.
+    repr leaves it out. It is a bytes object, or what `encrypted_into` wrote, as a memoryview.
     """
 
     id: int
     extendable: bool
     exponent: int
-    value: bytes = field(repr=False)
+    value: Union[bytes, memoryview] = field(repr=False)
 
 
 @dataclass(frozen=True)
@@ -460,6 +464,56 @@ def _joined(lines: Lines) -> bytes:
     return b"\n".join(_line(number, line) for number, line in enumerate(cast(Iterable[Text], lines), 1))
 
 
+class _Copies:
+    """Copies of arguments, for calls that leave nothing behind. They are cleared when the block ends, also if it raises."""
+
+    def __init__(self) -> None:
+        self._kept: List[Any] = []
+
+    def __enter__(self) -> _Copies:
+        return self
+
+    def __exit__(self, *_: object) -> None:
+        for copy in self._kept:
+            _library.shamir_wipe(copy, len(copy))
+
+    def joined(self, parts: List[memoryview]) -> Tuple[Any, int]:
+        """Return a copy of these parts with a line feed between them, and its length. It passes through no other object."""
+        length = sum(part.nbytes for part in parts) + len(parts) - 1
+        copy = ctypes.create_string_buffer(length)
+        self._kept.append(copy)
+        room, at = memoryview(copy).cast("B"), 0
+        for number, part in enumerate(parts):
+            if number:
+                room[at - 1] = ord("\n")
+            # A view without bytes can't be cast.
+            room[at : at + part.nbytes] = part.cast("B") if part.nbytes else b""
+            at += part.nbytes + 1
+        return copy, length
+
+    def data(self, data: Data) -> Tuple[Any, int]:
+        return self.joined([memoryview(data)])
+
+    def lines(self, lines: ClearableLines) -> Tuple[Any, int]:
+        if isinstance(lines, str) or _lends(lines):
+            return self.data(cast(Data, lines))
+        parts = [_whole_line(number, memoryview(line)) for number, line in enumerate(cast(Iterable[Data], lines), 1)]
+        return self.joined(parts) if parts else self.data(b"")
+
+
+def _whole_line(number: int, line: memoryview) -> memoryview:
+    """Return a line as `_line` does, without a copy."""
+    line = line[:-1] if line.nbytes and line[-1] == ord("\n") else line
+    if ord("\n") in line:
+        raise ValueError(f"line {number} of the list holds a line feed, so it is several lines")
+    return line
+
+
+def _room(room: bytearray) -> Tuple[Any, int]:
+    """Return a bytearray as the output of a call, which gets its address."""
+    return (ctypes.c_char * len(room)).from_buffer(room), len(room)
+
+
 def library_version() -> str:
     """Return the version of the library. `__version__` is the version of the package."""
     return _filled(_library.shamir_version, TEXT_BYTES_MAX).decode()
@@ -578,6 +632,40 @@ def encrypted(lines: Lines) -> EncryptedSecret:
     return EncryptedSecret(found.id, bool(found.extendable), found.exponent, value)
 
 
+def recover_into(
+    room: bytearray, lines: ClearableLines, *, passphrase: Data = b"", max_exponent: int = EXPONENT_MAX, expect: Optional[Text] = None
+) -> int:
+    """Recover the secret as `recover` does, write it to the start of a bytearray, and return its length.
+
+    >>> room = bytearray(shamir.SECRET_BYTES_MAX)
+    >>> length = shamir.recover_into(room, lines, passphrase=passphrase)
+    >>> room[:] = bytes(len(room))
+
+    The call leaves no copy of the secret, of the lines or of the passphrase behind. Give the two as bytearrays, and clear all three
+    after use, as the last line of the example does. Don't change the length of such a bytearray, as this can leave its old
+    memory behind. A str can't be cleared, so it raises TypeError.
+
+    Raises `Refusal` as `recover` does, and with the code 1 if the bytearray is too short. Then it is unchanged.
+    """
+    with _Copies() as own:
+        options = own.data(passphrase) + (_number(max_exponent, ctypes.c_uint32),) + _slice(_expected(expect))
+        return _checked(_library.shamir_recover(*own.lines(lines), *options, *_room(room))).written
+
+
+def encrypted_into(room: bytearray, lines: ClearableLines) -> EncryptedSecret:
+    """Combine mnemonics as `encrypted` does, and write the encrypted secret to the start of a bytearray.
+
+    The value of the result is a view of the bytearray, whose length can't be changed as long as the view is there. The call leaves no copy
+    behind, as `recover_into`.
+
+    Raises `Refusal` as `encrypted` does, and with the code 1 if the bytearray is too short. Then it is unchanged.
+    """
+    found = _Parameters()
+    with _Copies() as own:
+        answer = _checked(_library.shamir_encrypted(*own.lines(lines), ctypes.byref(found), *_room(room)))
+    return EncryptedSecret(found.id, bool(found.extendable), found.exponent, memoryview(room)[: answer.written])
+
+
 def decrypt(secret: EncryptedSecret, *, passphrase: Text = b"", expect: Optional[Text] = None) -> bytes:
     """Decrypt what `encrypted` gave, and return the secret.
 
@@ -586,12 +674,29 @@ def decrypt(secret: EncryptedSecret, *, passphrase: Text = b"", expect: Optional
 
     Raises `Refusal` with one of the codes 2 (a field is out of range), 41, 42, 44 or 52.
     """
+    parameters = _parameters(secret)
+    given = _slice(_data(secret.value)) + _slice(_bytes(passphrase)) + _slice(_expected(expect))
+    return _filled(lambda out, room: _library.shamir_decrypt(ctypes.byref(parameters), *given, out, room), SECRET_BYTES_MAX)
+
+
+def decrypt_into(room: bytearray, secret: EncryptedSecret, *, passphrase: Data = b"", expect: Optional[Text] = None) -> int:
+    """Decrypt what `encrypted` or `encrypted_into` gave as `decrypt` does, write the secret to the start of a bytearray, and return
+    its length.
+
+    The call leaves no copy behind, as `recover_into`.
+
+    Raises `Refusal` as `decrypt` does, and with the code 1 if the bytearray is too short. Then it is unchanged.
+    """
+    parameters = _parameters(secret)
+    with _Copies() as own:
+        given = own.data(secret.value) + own.data(passphrase) + _slice(_expected(expect))
+        return _checked(_library.shamir_decrypt(ctypes.byref(parameters), *given, *_room(room))).written
+
+
+def _parameters(secret: EncryptedSecret) -> _Parameters:
     if not isinstance(secret, EncryptedSecret):
         raise TypeError(f"an encrypted secret isn't of type {type(secret).__name__}")
-    numbers = _number(secret.id, ctypes.c_uint16), _flag(secret.extendable), _number(secret.exponent, ctypes.c_uint8)
-    given = _slice(_data(secret.value)) + _slice(_bytes(passphrase)) + _slice(_expected(expect))
-    parameters = _Parameters(*numbers)
-    return _filled(lambda out, room: _library.shamir_decrypt(ctypes.byref(parameters), *given, out, room), SECRET_BYTES_MAX)
+    return _Parameters(_number(secret.id, ctypes.c_uint16), _flag(secret.extendable), _number(secret.exponent, ctypes.c_uint8))
 
 
 def drill(

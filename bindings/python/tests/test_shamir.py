@@ -83,6 +83,31 @@ HEADER = ROOT / "include" / "shamir.h"
 PACKAGE = pathlib.Path(shamir.__file__).resolve().parent
 
 
+# This program reads a passphrase and lines into bytearrays, makes a call, and clears all bytearrays. Its source has no secret.
+LEFT = """
+import os, shamir
+passphrase, lines, room, other = bytearray(12), bytearray(284), bytearray(128), bytearray(128)
+for part in (passphrase, lines):
+    os.readv(0, [part])
+{call}
+for part in (passphrase, lines, room, other):
+    part[:] = bytes(len(part))
+os.write(1, b"done\\n")
+os.read(0, 1)
+"""
+LEFT_SECRET = shamir.recover(EXTENDABLE, passphrase="TREZORTREZOR")
+
+
+def memory_of(process):
+    """Returns the memory of a process that it can write."""
+    found = []
+    with open(f"/proc/{process}/maps") as maps, open(f"/proc/{process}/mem", "rb", 0) as memory:
+        for low, high in re.findall(r"^([0-9a-f]+)-([0-9a-f]+) rw", maps.read(), re.MULTILINE):
+            memory.seek(int(low, 16))
+            found.append(memory.read(int(high, 16) - int(low, 16)))
+    return b"".join(found)
+
+
 class LongBytes(bytes):
     """Bytes that claim to be 128 bytes long, whatever they hold."""
 
@@ -236,6 +261,68 @@ class WorkedExamples(unittest.TestCase):
         for other in (shamir.parse(ONE), kept.value, ONE, None):
             self.assertRaises(TypeError, shamir.decrypt, other)
         self.assertRaises(TypeError, lambda: shamir.decrypt(kept, "TREZOR"))
+
+    def test_into(self):
+        """What is written into a bytearray is what the other calls give, and the bytes after it are unchanged."""
+        for lines, kept, secret in ENCRYPTED:
+            given, room = [lines.encode()] if isinstance(lines, str) else [bytearray(line, "ascii") + b"\n" for line in lines], bytearray(b"x" * 40)
+            length = shamir.recover_into(room, given, passphrase=bytearray(b"TREZOR"))
+            self.assertEqual((length, room), (len(secret), secret + b"x" * (40 - len(secret))))
+            found, other = shamir.encrypted_into(room, b"\n".join(given)), bytearray(128)
+            self.assertEqual((found, room[: len(secret)]), (kept, kept.value))
+            self.assertEqual(other[: shamir.decrypt_into(other, found, passphrase=memoryview(b"TREZOR"))], secret)
+            room[:] = bytes(40)
+            self.assertEqual(bytes(found.value), bytes(len(secret)))
+        for value in odd(ENCRYPTED[0][1].value)[:-1]:
+            shamir.decrypt_into(other, dataclasses.replace(ENCRYPTED[0][1], value=value), passphrase=b"TREZOR")
+            self.assertEqual(other[:16], SECRET)
+
+    def test_what_into_refuses(self):
+        """Refusals leave the bytearray as it was. A text and a room that can't be written raise TypeError."""
+        kept, room, line = ENCRYPTED[0][1], bytearray(b"x" * 15), bytearray(ONE, "ascii")
+        self.refused(1, None, (16, 0), shamir.recover_into, room, line, passphrase=b"TREZOR", expect="df41d8fe")
+        self.refused(1, None, (16, 0), shamir.encrypted_into, room, [line])
+        self.refused(1, None, (16, 0), shamir.decrypt_into, room, kept)
+        self.refused(52, None, (0, 0), shamir.recover_into, room, line, passphrase=b"TREZOR", expect="df41d8ff")
+        self.refused(44, None, (0, 0), shamir.decrypt_into, room, kept, expect="")
+        self.refused(3, None, (2, 0), shamir.recover_into, room, [line.encode() for line in TWO], max_exponent=1)
+        self.refused(29, None, (0, 0), shamir.encrypted_into, room, [])
+        self.refused(11, 2, (1, 0), shamir.recover_into, room, [line, b"x\n"])
+        self.refused(2, None, (0, 0), shamir.decrypt_into, room, dataclasses.replace(kept, id=32768))
+        for call in [
+            lambda: shamir.recover_into(room, ONE),
+            lambda: shamir.recover_into(room, [ONE]),
+            lambda: shamir.recover_into(room, line, passphrase="TREZOR"),
+            lambda: shamir.recover_into(bytes(16), line),
+            lambda: shamir.encrypted_into(None, line),
+            lambda: shamir.decrypt_into(room, kept.value),
+            lambda: shamir.decrypt_into(room, dataclasses.replace(kept, value="")),
+        ]:
+            self.assertRaises(TypeError, call)
+        self.assertRaisesRegex(ValueError, "^line 2 of the list holds a line feed", shamir.recover_into, room, [line, b"a\nb"])
+        self.assertEqual(room, b"x" * 15)
+
+    @unittest.skipUnless(hasattr(os, "geteuid") and os.path.exists("/proc/self/mem"), "/proc isn't here")
+    def test_into_leaves_nothing(self):
+        """Another process looks for the secret, the passphrase and a mnemonic in the memory of one that cleared its bytearrays."""
+        for call, left in [
+            ("shamir.recover_into(room, lines, passphrase=passphrase)", False),
+            ("shamir.decrypt_into(room, shamir.encrypted_into(other, [lines[:138], lines[139:]]), passphrase=passphrase)", False),
+            ("kept = shamir.recover(lines, passphrase=passphrase)", True),
+        ]:
+            run = [sys.executable, "-B", "-c", LEFT.format(call=call)]
+            with subprocess.Popen(run, cwd=PACKAGE.parent, stdin=subprocess.PIPE, stdout=subprocess.PIPE) as child:
+                child.stdin.write(b"TREZORTREZOR" + "\n".join(EXTENDABLE).encode())
+                child.stdin.flush()
+                self.assertEqual(child.stdout.read(5), b"done\n")
+                try:
+                    memory = memory_of(child.pid)
+                except PermissionError:
+                    self.skipTest("the memory of another process can't be read here")
+                finally:
+                    child.kill()
+            found = [what in memory for what in (LEFT_SECRET, b"TREZORTREZOR", EXTENDABLE[0][30:80].encode(), EXTENDABLE[1][30:80].encode())]
+            self.assertEqual(any(found), left, (call, found))
 
     def test_drill(self):
         names = ["0.0+0.1+1.0", "0.0+0.1+2.0", "0.0+0.2+1.0", "0.0+0.2+2.0", "0.1+0.2+1.0", "0.1+0.2+2.0", "1.0+2.0"]

@@ -1,0 +1,88 @@
+/**
+ * Four clients of the package. Papers are lines of standard input, or of a file, and FINGERPRINT is what `make` told.
+ *
+ *     node wallet.js make PLAN PASSPHRASE
+ *     node wallet.js recover PASSPHRASE FINGERPRINT
+ *     node wallet.js drill PASSPHRASE FINGERPRINT FILE      # Ctrl-C stops it
+ *     node wallet.js repair
+ */
+import { readFile } from "node:fs/promises";
+import { createInterface } from "node:readline";
+import { open, Refusal } from "shamir";
+import { InWorker } from "shamir/worker.js";
+
+const ADVICE = {
+  13: ": put ? for the words that can't be read, and repair the line",
+  18: ": read this word again",
+  51: ": a paper isn't of this backup, or was changed: drill all papers",
+  52: ": the passphrase is another one, or the papers are",
+};
+const shamir = await open();
+const lines = () => createInterface({ input: process.stdin });
+
+/** Returns what a call gives, or the refusal. */
+function attempt(call) {
+  try {
+    return call();
+  } catch (error) {
+    if (error instanceof Refusal) return error;
+    throw error;
+  }
+}
+
+/** Says what is wrong, and what to do. If the checksum of a paper is wrong, `repair` says whether one word can be. */
+function told(refusal, paper) {
+  const { code, text } = refusal.code === 13 && paper ? attempt(() => shamir.repair(paper)) : refusal;
+  return `${code} ${text}${ADVICE[code] ?? ""}`;
+}
+
+function make(plan, passphrase) {
+  const secret = crypto.getRandomValues(new Uint8Array(16));
+  for (const paper of shamir.create(plan, secret, { passphrase, exponent: 1, extendable: true })) console.log(paper);
+  console.log("# fingerprint", shamir.fingerprint(secret));
+}
+
+async function recover(passphrase, expect) {
+  let [papers, before] = [[], ""];
+  for await (const paper of lines()) {
+    const status = attempt(() => shamir.status([...papers, paper]));
+    if (status instanceof Refusal) {
+      console.log(told(status, paper));
+      continue;
+    }
+    const now = status.groups.map(({ group, names, threshold }) => `group ${group} has ${names.join("+")}, ${threshold} are needed`).join("\n");
+    console.log(`${now === before ? "again" : `groups ${status.complete} of ${status.required}`}\n${now}`);
+    [papers, before] = [[...papers, paper], now];
+    if (status.enough) return console.log("fingerprint", shamir.fingerprint(shamir.recover(papers, { passphrase, expect })));
+  }
+  throw new Error("more papers are needed");
+}
+
+async function drill(passphrase, expect, file) {
+  const [papers, stop, worker] = [await readFile(file, "utf8"), new AbortController(), new InWorker()];
+  process.on("SIGINT", () => stop.abort());
+  let [number, last, quorums] = [0, "none", shamir.quorums(papers)];
+  try {
+    for await (const { names, expected } of worker.drill(papers, { passphrase, expect }, stop.signal)) {
+      stop.signal.throwIfAborted();
+      console.log(`${++number} of ${quorums}: ${(last = names)} ${expected ? "as expected" : "NOT as expected"}`);
+    }
+  } catch (error) {
+    if (!stop.signal.aborted) throw error;
+    console.log("stopped after", last);
+  } finally {
+    worker.end();
+  }
+}
+
+async function repair() {
+  for await (const line of lines()) return shamir.repair(line).forEach((paper) => console.log(paper));
+}
+
+const [command, ...words] = process.argv.slice(2);
+try {
+  await { make, recover, drill, repair }[command](...words);
+} catch (error) {
+  console.error(error instanceof Refusal ? told(error) : error.message);
+  process.exitCode = 1;
+}

@@ -1,0 +1,246 @@
+/*
+ * Tests of what shamir.hpp has beside the answers of the library: its types, options and loops, and that it clears what it frees.
+ * The values come from the published vectors and from other programs. tools/check_cpp runs it. It prints each difference.
+ */
+#include <array>
+#include <cstdio>
+#include <cstdlib>
+#include <cstring>
+#include <malloc.h>
+#include <new>
+
+#include "shamir.hpp"
+
+namespace {
+
+constexpr shamir::Text secret_digits = "bb54aac4b89dc868ba37d9cc21b2cece", plan = "2/2of3,1of1,1of1", key = "TREZOR";
+constexpr shamir::Text lines[] = {
+    "academic aluminum acrobat leaf buyer drink heat negative damage union purchase photo inmate training amazing yield bucket wrote mule "
+    "cluster",
+    "academic aluminum acrobat lily august piece column laser headset unusual blimp nuclear sweater criminal credit eyebrow trouble silent "
+    "axis skin",
+    "academic aluminum acrobat lungs dive behavior mobile ting perfect ultimate weapon join paper involve clinic acrobat jerky preach gross "
+    "usual",
+    "academic aluminum beard leader chest elite grant group club deploy increase divorce puny cylinder romp frequent crush ruler erode "
+    "bucket",
+    "academic aluminum ceramic leader cylinder decorate mobile devote echo finger program firm starting dwarf grumpy harvest enforce raisin "
+    "sprinkle phantom",
+};
+constexpr shamir::Text extendable = "enemy favorite academic acid cowboy phrase havoc level response walnut budget painting inside trash adjust "
+                                    "froth kitchen learn tidy punish\nenemy favorite academic always academic sniff script carpet romp kind "
+                                    "promise scatter center unfair training emphasis evening belong fake enforce\n";
+constexpr shamir::Text anew = "cleanup pecan academic academic broken exact editor public best party forecast darkness burning yelp window mama "
+                              "warmth market laundry response\n";
+
+int differences;
+
+void expect(const char *what, bool is_right)
+{
+    if (!is_right) {
+        std::printf("%s: another answer than is right\n", what);
+        differences++;
+    }
+}
+
+/* While this is set, memory that is freed is looked at. It counts the blocks with the beginning of the secret or of a mnemonic. */
+bool looks;
+int left;
+
+std::array<std::uint8_t, 16> the_secret()
+{
+    std::array<std::uint8_t, 16> secret{};
+    for (std::size_t i = 0; i < secret.size(); i++) {
+        secret[i] = static_cast<std::uint8_t>(shamir::detail::number(secret_digits.substr(2 * i, 2), 16));
+    }
+    return secret;
+}
+
+const auto secret = the_secret();
+
+bool holds(const char *block, std::size_t size, const void *what, std::size_t count)
+{
+    return memmem(block, size, what, count) != nullptr;
+}
+
+shamir::Mnemonics papers(std::initializer_list<int> which)
+{
+    shamir::Mnemonics held;
+    for (const int one : which) {
+        held.add(lines[one]);
+    }
+    return held;
+}
+
+void count_up(std::uint8_t *bytes, std::size_t count)
+{
+    for (std::size_t i = 0; i < count; i++) {
+        bytes[i] = static_cast<std::uint8_t>(i);
+    }
+}
+
+void check_creation()
+{
+    shamir::CreateOptions options;
+    options.passphrase = key;
+    const auto made = shamir::create(plan, secret, options, count_up);
+    const auto found = made ? made->lines() : std::vector<shamir::Text>();
+    expect("create", found == std::vector<shamir::Text>(std::begin(lines), std::end(lines)));
+    expect("random_needed", *shamir::random_needed(plan, secret.size()) == 26);
+    options.exponent = 16;
+    const auto refused = shamir::create("no plan", secret, options, count_up);
+    expect("create with a wrong exponent and a wrong plan", !refused && refused.error().code == SHAMIR_E_OUT_OF_RANGE);
+    int draws = 0;
+    const auto split = shamir::resplit("1of1", extendable, [&](std::uint8_t *bytes, std::size_t count) {
+        /* The first bytes give the identifier 9066 of the old backup, and the next are those of another program's example. */
+        const std::uint8_t drawn[] = {0x23, 0x6a, 0x12, 0x34};
+        std::copy_n(draws++ ? drawn + 2 : drawn, count, bytes);
+    });
+    expect("resplit", split && shamir::Text(*split) == anew && draws == 2);
+}
+
+void check_recovery()
+{
+    shamir::RecoverOptions options;
+    options.passphrase = key;
+    options.expected = "df41d8fe";
+    const auto found = shamir::recover(papers({3, 4}), options);
+    expect("recover", found && std::equal(found->begin(), found->end(), secret.begin(), secret.end()));
+    expect("fingerprint", *shamir::fingerprint(*found) == "df41d8fe" && !shamir::fingerprint(shamir::Secret(15)));
+    options.expected = "";
+    expect("an empty fingerprint", shamir::recover(papers({3, 4}), options).error().code == SHAMIR_E_BAD_FINGERPRINT);
+    const auto kept = shamir::encrypted(papers({3, 4}));
+    const std::array<std::uint8_t, 4> begins = {0xae, 0x32, 0x83, 0x67};
+    expect("encrypted", kept && kept->id == 1 && kept->exponent == 0 && std::equal(begins.begin(), begins.end(), kept->value.begin()));
+    expect("decrypt", *shamir::decrypt(*kept, {key, "df41d8fe"}) == *found);
+    expect("decrypt with another passphrase", shamir::decrypt(*kept, {"x", "df41d8fe"}).error().code == SHAMIR_E_OTHER_SECRET);
+}
+
+void check_reading()
+{
+    const auto share = shamir::parse(lines[2]);
+    expect("parse", share && share->id == 1 && share->name() == shamir::Name{0, 2} && share->member_threshold == 2 && share->value.size() == 16);
+    const auto status = shamir::status(papers({0, 1, 3}));
+    expect("status", status && status->enough() && status->complete == 2 && status->groups.size() == 2 && status->groups[0].threshold == 2
+        && status->groups[0].names == shamir::Names{{0, 0}, {0, 1}} && !shamir::status(papers({4}))->enough());
+    expect("quorums", *shamir::quorums(papers({0, 1, 2, 3, 4})) == 7);
+    expect("reissue", shamir::Text(*shamir::reissue(plan, {{0, 2}, {2, 0}}, papers({0, 1, 4}))) == shamir::Text(papers({2, 4})));
+    shamir::Text unread = lines[0].substr(0, lines[0].rfind(' ') + 1);
+    expect("repair", shamir::repair(std::string(unread) + "?")->lines() == std::vector<shamir::Text>{lines[0]});
+    expect("words", shamir::words("aca") == std::vector<std::string>{"academic"} && shamir::words("xx").empty());
+    expect("version", shamir::version() == SHAMIR_VERSION);
+    expect("names", shamir::to_text({{0, 2}, {0, 10}}) == "0.2+0.10" && shamir::Name{0, 2} < shamir::Name{0, 10});
+}
+
+/* Refusals say what the command shamir says, and the value of one can't be taken. */
+void check_refusals()
+{
+    const auto unknown = shamir::recover("# a note\nacademic x");
+    expect("a word", !unknown && unknown.error().word() == 2 && unknown.error().message() == "line 2: 11 unknown word 2");
+    std::string changed(lines[0]);
+    changed.replace(0, 8, "acid");
+    expect("a wrong word", shamir::repair(changed).error().word() == 1);
+    const auto few = shamir::recover(papers({3}));
+    expect("too few", few.error().code == SHAMIR_E_INCOMPLETE && !few.error().word() && few.error().text() == "incomplete: 1 of 2 groups");
+    try {
+        static_cast<void>(few->size());
+        expect("a value of a refusal", false);
+    } catch (const shamir::Refused &refused) {
+        expect("a refusal that is thrown", refused.refusal.second == 2 && refused.what() == few.error().message());
+    }
+    try {
+        shamir::Mnemonics().add("academic\nacid");
+        expect("a line feed inside a line", false);
+    } catch (const std::invalid_argument &) {
+    }
+}
+
+void check_drill()
+{
+    shamir::DrillOptions options;
+    options.passphrase = key;
+    options.fingerprints = true;
+    options.at_once = 2;
+    std::string told;
+    const auto tell = [&](const shamir::Outcome &outcome, const shamir::Progress &progress) {
+        told += shamir::to_text(outcome.names) + " " + outcome.fingerprint.value_or("none") + " ";
+        return progress.listed < 3 && progress.quorums == 7;
+    };
+    const auto stopped = shamir::drill(papers({0, 1, 2, 3, 4}), options, tell);
+    expect("a drill that is stopped", stopped && !stopped->ended && stopped->last == shamir::Names{{0, 0}, {0, 2}, {1, 0}}
+        && told == "0.0+0.1+1.0 df41d8fe 0.0+0.1+2.0 df41d8fe 0.0+0.2+1.0 df41d8fe ");
+    options.after = stopped->last;
+    options.fingerprints = false;
+    options.expected = "00000000";
+    int others = 0;
+    const auto ended = shamir::drill(papers({0, 1, 2, 3, 4}), options, [&](const auto &outcome, const auto &) {
+        others += outcome.expected == false;
+        return true;
+    });
+    expect("a drill that goes on", ended && ended->ended && others == 4);
+    options.fingerprints = true;
+    try {
+        static_cast<void>(shamir::drill(papers({3, 4}), options, tell));
+        expect("fingerprints and an expected one", false);
+    } catch (const std::invalid_argument &) {
+    }
+}
+
+/* Nothing that the layer frees holds the secret or a mnemonic. */
+void check_memory()
+{
+    /* A block that isn't cleared is found. */
+    looks = true;
+    for (const shamir::Text text : {shamir::Text(reinterpret_cast<const char *>(secret.data()), secret.size()), lines[0]}) {
+        void *block = ::operator new(text.size());
+        std::memcpy(block, text.data(), text.size());
+        ::operator delete(block);
+    }
+    expect("a search of what is freed", left == 2);
+    left = 0;
+    check_creation();
+    check_recovery();
+    check_drill();
+    {
+        shamir::Mnemonics held = papers({0, 1, 2, 3, 4});
+        auto other = held;
+        held = std::move(other);
+        shamir::DrillOptions options;
+        options.passphrase = key;
+        static_cast<void>(shamir::drill(held, options, [](const auto &outcome, const auto &) { return outcome.secret->size() == 16; }));
+    }
+    looks = false;
+    expect("what is freed", left == 0);
+}
+
+} // namespace
+
+/* If these were inlined, gcc would warn of a block of malloc that delete frees. */
+[[gnu::noinline]] void *operator new(std::size_t size)
+{
+    void *block = std::malloc(size ? size : 1);
+    return block ? block : throw std::bad_alloc();
+}
+
+[[gnu::noinline]] void operator delete(void *block) noexcept
+{
+    const char *bytes = static_cast<const char *>(block);
+    if (looks && block) {
+        const std::size_t size = malloc_usable_size(block);
+        left += holds(bytes, size, secret.data(), secret.size()) || holds(bytes, size, secret_digits.data(), secret_digits.size())
+            || holds(bytes, size, lines[0].data() + 20, 40) || holds(bytes, size, lines[4].data() + 20, 40);
+    }
+    std::free(block);
+}
+
+void operator delete(void *block, std::size_t) noexcept { operator delete(block); }
+
+int main()
+{
+    check_creation();
+    check_recovery();
+    check_reading();
+    check_refusals();
+    check_drill();
+    check_memory();
+    return differences != 0;
+}
