@@ -31,7 +31,14 @@ fn drills(rt: &(impl Abort + AllocGlobal)) -> Result<(), Fail> {
     let start = start_of(&set, None)?;
     let mut text = Vec::new(rt.alloc());
     let mut output = Counting::new(&mut text);
-    let done = list_from(SecretForm::Fingerprint, &set, start, b"TREZOR", 1000, &mut output)?;
+    let done = list_from(
+        SecretForm::Fingerprint,
+        &set,
+        start,
+        b"TREZOR",
+        1000,
+        &mut output,
+    )?;
     assert_eq!(rt; done.mismatches, 0);
     assert_eq!(rt; text.as_slice(), b"0.0 df41d8fe\nend\n".as_slice());
 
