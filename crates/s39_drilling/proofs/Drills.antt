@@ -10,3 +10,4 @@ pub mod OneListing
 pub mod Outputs
 pub mod OneCreated
 pub mod WholeTexts
+pub mod Running

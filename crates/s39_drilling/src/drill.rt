@@ -1,5 +1,5 @@
 //! The command `drill`: the quorums of an input's shares in order, each with its outcome.
-ghost use Rattle.std.specs.Prelude.{◌≡◌, ◌≢◌, ℕ, List, Option, ◌+◌, ◌-◌, ◌*◌, ◌<◌, ◌≤◌, ◌++◌, All, Some, None, Ok, Err, IfOk, IfErr, length};
+ghost use Rattle.std.specs.Prelude.{◌≡◌, ◌≢◌, ℕ, List, Option, ◌+◌, ◌-◌, ◌*◌, ◌<◌, ◌≤◌, ◌++◌, All, Some, None, Ok, Err, IfOk, IfErr, IfSome, length};
 ghost use Rattle.std.specs.Option.{option_copied};
 ghost use Rattle.s39_kdf.specs.Limits.{IsPrintable, longest_secret};
 ghost use Rattle.s39_kdf.specs.declared.limits.BadPassphrase.{BadPassphrase};
@@ -128,36 +128,75 @@ pub fn run_drill<R: Read, W: Write>(
         → result ≡ Err (fault_of (Refusal.Passphrase bad)) → input.new ≡ input.old }
 {
     created_backups_drill();
-    listings_join();
     let set = checked_set(passphrase, input)?;
-    let mut looks = Looks::new();
-    let Some(start) = start_of(&set, after, &mut looks)? else {
-        write_text(output, last_line(None).as_slice())?;
-        return Ok(Done { mismatches: 0 });
-    };
-    Ok(write_drill(form, &set, start, passphrase, limit, &mut looks, output)?)
+    let start = start_of(&set, after)?;
+    Ok(list_from(form, &set, start, passphrase, limit, output)?)
 }
 
-/// The quorum at which a drill of a set starts, if there is one.
-pub(crate) fn start_of(
-    set: &ShareSet,
-    after: Option<&Quorum>,
-    looks: &mut Looks,
-) -> Result<Option<Quorum>, Undrilled>
-    requires looks { looks.old ≤ u64.MAX - most_step_looks }
+/// The quorum at which a drill of a set starts: the one after the given quorum, or the first one if none is given. It is
+/// `None` if the given one is the last.
+///
+/// The first error that applies is returned:
+///
+/// - `Lack` if the shares have no quorum;
+/// - `NotAQuorum` if the given names aren't a quorum of the shares.
+///
+/// The example of `list_from` calls it.
+pub fn start_of(set: &ShareSet, after: Option<&Quorum>) -> Result<Option<Quorum>, Undrilled>
     ensures is_set { IsShareSet set.now }
     ensures start { IfOk result (StartsAt set.now (option_copied after.entry)) }
     ensures refused { IfErr result (IsUndrilled set.now (option_copied after.entry)) }
-    ensures looks { looks.new ≤ looks.old + most_step_looks }
 {
     let least = first(set)?;
     match after {
         None => Ok(Some(least)),
-        Some(quorum) => match next_after(set, quorum, looks) {
+        Some(quorum) => match next_after(set, quorum, &mut Looks::new()) {
             Ok(next) => Ok(next),
             Err(NotAQuorum) => Err(Undrilled::NotAQuorum),
         },
     }
+}
+
+/// Tries the quorums of a set from `start` on, which `start_of` gives, and writes their lines and the last line, as
+/// `run_drill` does for the set of its input. If `start` is `None`, only the last line is written.
+///
+/// If a write fails or takes no byte, a beginning of the lines is written. The caller passes a printable passphrase and a
+/// `limit` of at least 1, and keeps `failures()` below `u64::MAX`.
+///
+/// ```rust
+/// let line =
+///     b"duckling enlarge academic academic agency result length solution fridge kidney coal \
+///     piece deal husband erode duke ajar critical decision keyboard\n";
+/// let set = checked_set_in(b"TREZOR", line)?;
+/// let start = start_of(&set, None)?;
+/// let mut text = Vec::new(rt.alloc());
+/// let mut output = Counting::new(&mut text);
+/// let done = list_from(SecretForm::Fingerprint, &set, start, b"TREZOR", 1000, &mut output)?;
+/// assert_eq!(rt; done.mismatches, 0);
+/// assert_eq!(rt; text.as_slice(), b"0.0 df41d8fe\nend\n".as_slice());
+/// ```
+pub fn list_from<W: Write>(
+    form: SecretForm,
+    set: &ShareSet,
+    start: Option<Quorum>,
+    passphrase: &[u8],
+    limit: u32,
+    output: &mut Counting<W>,
+) -> Result<Done, WriteFailed>
+    requires is_set { IsShareSet set.now }
+    requires quorum { IfSome start (IsQuorum set.now) }
+    requires printable { All IsPrintable passphrase.now }
+    requires some { 1 ≤ limit }
+    requires writable { output.old.failures < u64.MAX }
+    ensures { (after : Option Names) → IsNext set.now after start
+        → WritesDrill W.contents output.old form set.now passphrase.now after limit result output.new }
+{
+    listings_join();
+    let Some(quorum) = start else {
+        write_text(output, last_line(None).as_slice())?;
+        return Ok(Done { mismatches: 0 });
+    };
+    write_drill(form, set, quorum, passphrase, limit, output)
 }
 
 /// Writes the lines of a drill that starts at this quorum, the last line too.
@@ -167,20 +206,19 @@ fn write_drill<W: Write>(
     start: Quorum,
     passphrase: &[u8],
     limit: u32,
-    looks: &mut Looks,
     output: &mut Counting<W>,
 ) -> Result<Done, WriteFailed>
     requires is_set { IsShareSet set.now }
     requires quorum { IsQuorum set.now start }
     requires printable { All IsPrintable passphrase.now }
     requires some { 1 ≤ limit }
-    requires looks { looks.old ≤ most_step_looks }
     requires writable { output.old.failures < u64.MAX }
     ensures { (after : Option Names) → IsFirstQuorumAfter set.now after start
         → WritesDrill W.contents output.old form set.now passphrase.now after limit result output.new }
 {
     drill_laws();
     let mut memo = Memo::new(passphrase, params_of(set, &start));
+    let mut looks = Looks::new();
     let mut quorum = start;
     let mut mismatches = 0;
     let mut left = limit;
@@ -189,7 +227,7 @@ fn write_drill<W: Write>(
         write_text(output, quorum_line(form, &quorum, &outcome).as_slice())?;
         mismatches += mismatch_in(form, &outcome);
         left -= 1;
-        let next = following(set, &quorum, looks);
+        let next = following(set, &quorum, &mut looks);
         if left == 0 || next.is_none() {
             let last = last_line(next.is_some().then_some(&quorum));
             write_text(output, last.as_slice())?;

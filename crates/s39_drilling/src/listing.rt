@@ -118,27 +118,20 @@ pub fn drill_set(
         limit text.old text.new result }
 {
     listings_join();
-    let mut looks = Looks::new();
-    match start_in(set, after, &mut looks)? {
-        Some(start) => Ok(fill(form, set, start, passphrase, limit, &mut looks, text)?),
+    match start_in(set, after)? {
+        Some(start) => Ok(fill(form, set, start, passphrase, limit, text)?),
         None => Ok(put_end(text)?),
     }
 }
 
 /// The quorum at which a drill of a set starts, if there is one.
-fn start_in(
-    set: &ShareSet,
-    after: Option<&Quorum>,
-    looks: &mut Looks,
-) -> Result<Option<Quorum>, Fault>
-    requires looks { looks.old ≤ u64.MAX - most_step_looks }
+fn start_in(set: &ShareSet, after: Option<&Quorum>) -> Result<Option<Quorum>, Fault>
     ensures is_set { IsShareSet set.now }
     ensures starts { IfOk result (StartsAt set.now (option_copied after.entry)) }
     ensures refused { IfErr result (λ fault. (form : SecretForm) (passphrase : List ℕ) (limit : ℕ)
         → WritesDrillOf form passphrase (option_copied after.entry) limit set.now ([], Err fault)) }
-    ensures looks { looks.new ≤ looks.old + most_step_looks }
 {
-    Ok(start_of(set, after, looks)?)
+    Ok(start_of(set, after)?)
 }
 
 /// Puts the text of a drill without a quorum at the front of a slice.
@@ -163,20 +156,19 @@ fn fill(
     start: Quorum,
     passphrase: &[u8],
     limit: u32,
-    looks: &mut Looks,
     text: &mut [u8],
 ) -> Result<Listing, TooShort>
     requires is_set { IsShareSet set.now }
     requires quorum { IsQuorum set.now start }
     requires printable { All IsPrintable passphrase.now }
     requires some { 1 ≤ limit }
-    requires looks { looks.old ≤ most_step_looks }
     ensures { (after : Option Names) → IsFirstQuorumAfter set.now after start
         → Fills form set.now passphrase.now after limit text.old text.new result }
 {
     drill_laws();
     let mut memo = Memo::new(passphrase, params_of(set, &start));
-    let first = try_quorum(form, set, &start, &mut memo, looks);
+    let mut looks = Looks::new();
+    let first = try_quorum(form, set, &start, &mut memo, &mut looks);
     let mut written = put_line(text, 0, &first)?;
     let mut mismatches = first.mismatches;
     let mut last = first.last;
@@ -186,7 +178,7 @@ fn fill(
         let Some(quorum) = next else {
             break;
         };
-        let tried = try_quorum(form, set, &quorum, &mut memo, looks);
+        let tried = try_quorum(form, set, &quorum, &mut memo, &mut looks);
         let Ok(end) = put_line(text, written, &tried) else {
             break;
         };

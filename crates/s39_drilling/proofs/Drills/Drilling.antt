@@ -1,7 +1,7 @@
 -- A drill, a quorum at a time.
-use Rattle.std.proofs.Common.{◌≡◌, ℕ, zero, suc, ◌+◌, ◌≤◌, List, [], ◌∷◌, ◌++◌, map, Bool, true, false, is_some, ◌⊎◌}
+use Rattle.std.proofs.Common.{◌≡◌, ℕ, zero, suc, ◌+◌, List, [], ◌∷◌, ◌++◌, map, Bool, true, false, is_some, ◌⊎◌}
 use Rattle.std.proofs.Common.{inl, inr, refl, sym, ap, ◌∙◌, subst, append_assoc, append-nil, arith, Option, Some}
-use Rattle.std.proofs.Common.{None, Result, Ok, Err}
+use Rattle.std.proofs.Common.{None, Result}
 use Rattle.std.specs.Borrow.{Bor}
 use Rattle.std.specs.Bool.{then_some}
 use Rattle.std.specs.Option.{option_copied}
@@ -16,7 +16,7 @@ use Rattle.s39_backup.specs.Outcome.{IsOutcome}
 use Rattle.s39_kdf.specs.declared.secret_form.SecretForm.{SecretForm}
 use Rattle.s39_input.specs.Device.{Counted}
 use Rattle.s39_input.specs.Output.{WritesWhole, WritesPart}
-use Rattle.s39_drilling.specs.Drill.{DrillLaws, Listed, quorum_line, last_line, mismatch_in, IsDrill, IsNext}
+use Rattle.s39_drilling.specs.Drill.{DrillLaws, quorum_line, last_line, mismatch_in, IsDrill, IsNext}
 use Rattle.s39_drilling.specs.Slices.{more_after}
 use Rattle.s39_drilling.proofs.Drills.Counts.{mismatches-more}
 use Rattle.s39_input.proofs.Runs.Writing.{nothing_written, both_written, part_after}

@@ -1,6 +1,6 @@
 -- All lines that `create` writes have a quorum, so `drill` gives the secret of them.
 use Rattle.std.proofs.Common.{◌≡◌, ℕ, List, map, ap}
-use Rattle.std.proofs.Common.{All, Some, None, Result, Ok, Err}
+use Rattle.std.proofs.Common.{Some, None, Result, Ok, Err}
 use Rattle.s39_words.specs.declared.ShareFields.{ShareFields}
 use Rattle.s39_set.specs.ShareSet.{name_of}
 use Rattle.s39_set.specs.Quorums.{MeetsThresholds}

@@ -20,7 +20,7 @@ loop-outcome-init g c = record {
   drilling = drilling_starts c.requires.quorum;
   some = c.requires.some;
   counted = omega arith;
-  looks = omega (arith, c.requires.looks);
+  looks = omega (arith, c.new-looks.ensures);
   passphrase = c.new-memo.ensures.passphrase;
   params = rw c.new-memo.ensures.params c.params_of.ensures;
 }

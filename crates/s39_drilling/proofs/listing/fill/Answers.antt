@@ -21,7 +21,7 @@ loop-left-init c =
     let some = c.requires.some in
     let few = c.try_quorum-first.ensures.one in
     let looks = c.try_quorum-first.ensures.looks in
-    let before = c.requires.looks in
+    let before = c.new-looks.ensures in
     let one : 1 ≡ c.args.limit - (c.args.limit - 1) = omega (arith, some) in
     record {
       filling =
