@@ -9,9 +9,8 @@ from case import FIELDS, refused
 
 # Debian installs Electrum for this Python.
 PYTHON = "/usr/bin/python3"
-SHOWN = re.compile(
-    r"identifier (\d+) extendable (\d+) exponent (\d+) group (\d+) group-threshold (\d+) group-count (\d+) member (\d+) member-threshold (\d+) value ([0-9a-f]+)\n"
-)
+NUMBERS = ["identifier", "extendable", "exponent", "group", "group-threshold", "group-count", "member", "member-threshold"]
+SHOWN = re.compile("".join(rf"{name} (\d+) " for name in NUMBERS) + r"value ([0-9a-f]+)\n")
 READER = """
 import json, sys
 from electrum import ELECTRUM_VERSION, slip39
