@@ -3,10 +3,11 @@ import importlib.machinery
 import importlib.util
 import pathlib
 import re
+import shutil
 import subprocess
 import sys
 from types import ModuleType
-from typing import Any, Sequence, Set, Union
+from typing import Any, Iterable, Sequence, Set, Union
 
 ROOT = pathlib.Path(__file__).resolve().parent.parent
 
@@ -34,6 +35,16 @@ def ran(words: Sequence[Union[str, pathlib.Path]], **options: Any) -> str:
     if done.returncode:
         sys.exit(f"{done.stdout}{done.stderr or ''}\n{' '.join(map(str, words[:4]))} .. ended with status {done.returncode}")
     return str(done.stdout)
+
+
+def mirrored(top: pathlib.Path, names: Iterable[Union[str, pathlib.Path]], *without: str) -> None:
+    """Copies files and folders of the repository to the same places below another folder. Files of folders may be left out by patterns."""
+    for name in names:
+        (top / name).parent.mkdir(parents=True, exist_ok=True)
+        if (ROOT / name).is_dir():
+            shutil.copytree(ROOT / name, top / name, ignore=shutil.ignore_patterns("__pycache__", *without))
+        else:
+            shutil.copyfile(ROOT / name, top / name)
 
 
 def commands_of(program: Union[str, pathlib.Path]) -> Set[str]:
