@@ -1,6 +1,8 @@
 """What several tools share."""
+import argparse
 import importlib.machinery
 import importlib.util
+import os
 import pathlib
 import re
 import shutil
@@ -45,6 +47,13 @@ def mirrored(top: pathlib.Path, names: Iterable[Union[str, pathlib.Path]], *with
             shutil.copytree(ROOT / name, top / name, ignore=shutil.ignore_patterns("__pycache__", *without))
         else:
             shutil.copyfile(ROOT / name, top / name)
+
+
+def given_program() -> str:
+    """Returns the path of the program that a tool checks: the one that its option --program gives, or ./shamir."""
+    parser = argparse.ArgumentParser()
+    parser.add_argument("--program", default=str(ROOT / "shamir"))
+    return os.path.abspath(parser.parse_args().program)
 
 
 def commands_of(program: Union[str, pathlib.Path]) -> Set[str]:
