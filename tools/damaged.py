@@ -23,13 +23,11 @@ def made_share(rng):
 
 def with_bad_padding(rng, words):
     """Returns these words with one of the bits before the value set, and with the checksum of the changed words."""
-    indices = [plain.INDEX[word.encode()] for word in words[:-3]]
+    indices = plain.indices_of(words[:-3])
     padding = 10 * (len(indices) - 4) % 16
     if padding:
         indices[4] ^= 1 << rng.randint(10 - padding, 9)
-    extendable = indices[1] >> 4 & 1
-    check = plain.polymod(plain.customization(extendable) + indices + [0, 0, 0]) ^ 1
-    return [plain.WORDS[i] for i in indices + [check >> 20, check >> 10 & 1023, check & 1023]]
+    return plain.closed(indices, plain.customization(indices[1] >> 4 & 1)).split(" ")
 
 
 def opened(rng, word):

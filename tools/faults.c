@@ -77,11 +77,15 @@ static int is_program(void *caller)
     return (uintptr_t)caller >= first_address && (uintptr_t)caller < last_address;
 }
 
-static void tell(const char *kind, size_t size, long result)
+/* Logs a call, and returns its result, with the error that it left. */
+static long tell(const char *kind, size_t size, long result)
 {
+    int kept = errno;
     char line[80];
     int length = snprintf(line, sizeof line, "%s %zu %ld\n", kind, size, result);
     syscall(SYS_write, (int)log_to, line, (size_t)length);
+    errno = kept;
+    return result;
 }
 
 static int is_refused(void *caller, size_t size)
@@ -136,21 +140,13 @@ int open(const char *name, int flags, ...)
     int mode = flags & O_CREAT ? va_arg(more, int) : 0;
     va_end(more);
     opens++;
-    long result = opens == open_at ? fail() : syscall(SYS_openat, AT_FDCWD, name, flags, mode);
-    int kept = errno;
-    tell("open", 0, result);
-    errno = kept;
-    return (int)result;
+    return (int)tell("open", 0, opens == open_at ? fail() : syscall(SYS_openat, AT_FDCWD, name, flags, mode));
 }
 
 static ssize_t read_file(int from, void *to, size_t size)
 {
     files++;
-    long result = files == file_at ? fail() : syscall(SYS_read, from, to, size);
-    int kept = errno;
-    tell("file", size, result);
-    errno = kept;
-    return result;
+    return tell("file", size, files == file_at ? fail() : syscall(SYS_read, from, to, size));
 }
 
 ssize_t read(int from, void *to, size_t size)
@@ -161,43 +157,26 @@ ssize_t read(int from, void *to, size_t size)
     reads++;
     if (read_bytes >= 0)
         wanted = least(wanted, (size_t)(read_bytes - read_sum));
-    long result;
-    if (reads == read_at || (read_bytes >= 0 && read_sum >= read_bytes))
-        result = fail();
-    else
-        result = syscall(SYS_read, from, to, wanted);
+    int fails = reads == read_at || (read_bytes >= 0 && read_sum >= read_bytes);
+    long result = fails ? fail() : syscall(SYS_read, from, to, wanted);
     if (result > 0)
         read_sum += result;
-    int kept = errno;
-    tell("read", size, result);
-    errno = kept;
-    return result;
+    return tell("read", size, result);
 }
 
 ssize_t write(int to, const void *from, size_t size)
 {
     size_t wanted = single ? least(size, 1) : size;
-    long result;
-    if (to == 1) {
-        writes++;
-        if (write_bytes >= 0)
-            wanted = least(wanted, (size_t)(write_bytes - write_sum));
-        if (writes == write_at || (write_bytes >= 0 && write_sum >= write_bytes))
-            result = fail();
-        else if (writes == write_none)
-            result = 0;
-        else
-            result = syscall(SYS_write, to, from, wanted);
-        if (result > 0)
-            write_sum += result;
-    } else if (errors)
-        result = fail();
-    else
-        result = syscall(SYS_write, to, from, wanted);
-    int kept = errno;
-    tell(to == 1 ? "write" : "error", size, result);
-    errno = kept;
-    return result;
+    if (to != 1)
+        return tell("error", size, errors ? fail() : syscall(SYS_write, to, from, wanted));
+    writes++;
+    if (write_bytes >= 0)
+        wanted = least(wanted, (size_t)(write_bytes - write_sum));
+    int fails = writes == write_at || (write_bytes >= 0 && write_sum >= write_bytes);
+    long result = fails ? fail() : writes == write_none ? 0 : syscall(SYS_write, to, from, wanted);
+    if (result > 0)
+        write_sum += result;
+    return tell("write", size, result);
 }
 
 ssize_t __write(int to, const void *from, size_t size)

@@ -10,6 +10,14 @@ def left_out(what):
     print(f"left out: {what}", flush=True)
 
 
+def is_here(program, without):
+    """Returns whether a program is here. If it isn't, says what is left out without it."""
+    if shutil.which(program):
+        return True
+    left_out(f"{program} isn't here, so {without}")
+    return False
+
+
 def say_skipped(verbose):
     """Says which tests Python's unittest skipped, by what it writes if it is told to be verbose."""
     for why in re.findall(r" \.\.\. skipped ['\"](.*)['\"]$", verbose, re.MULTILINE):

@@ -1,24 +1,17 @@
-"""Packs what users of Python, Rust and JavaScript install, for tools/alone, tools/javascript, tools/rust and tools/dist. Nothing is left in the folders of the packages."""
+"""Packs what users of Python, Rust and JavaScript install, for tools/alone, tools/javascript, tools/rust and tools/dist. Nothing is left in the folders
+of the packages.
+"""
 import os
 import pathlib
 import shutil
-import subprocess
-import sys
 import tempfile
 
-ROOT = pathlib.Path(__file__).resolve().parent.parent
+from tool import ROOT, mirrored, ran
+
 BINDINGS = ROOT / "bindings"
 # The archive of the crate has these files, and the repository has the same.
 OF_CRATE = {"c/shamir.c": "dist/c/shamir.c", "c/shamir.h": "dist/c/shamir.h", "LICENSE": "LICENSE", "NOTICE": "NOTICE"}
 OF_CRATE |= {"tests/given/published_vectors": "crates/s39_tests_backups/src/published.rt"}
-
-
-def ran(words, **options):
-    """Runs a command, and returns what it prints. If it fails, the tool prints that and exits."""
-    done = subprocess.run(words, stdin=subprocess.DEVNULL, stdout=subprocess.PIPE, stderr=subprocess.STDOUT, text=True, **options)
-    if done.returncode:
-        sys.exit(f"{done.stdout}\n{' '.join(map(str, words[:4]))} .. ended with status {done.returncode}")
-    return done.stdout
 
 
 def only_one(folder, pattern):
@@ -28,7 +21,7 @@ def only_one(folder, pattern):
 
 def python_sources(python, folder):
     """Writes the archive of the Python package's sources to a folder, by a Python that has setuptools and wheel, and returns it."""
-    ran([python, "tools/wheel", "--sources", str(folder)], cwd=ROOT)
+    ran([python, "tools/wheel", "--sources", str(folder)])
     return only_one(folder, "shamir-*[0-9].tar.gz")
 
 
@@ -58,11 +51,7 @@ def npm_settings(folder):
 def npm_archive(folder):
     """Writes npm's archive of the JavaScript package to a folder, and returns it. The module is that of `make wasm`, or else that of dist/."""
     with tempfile.TemporaryDirectory() as top:
-        here = pathlib.Path(top, "bindings", "js")
-        shutil.copytree(BINDINGS / "js", here, ignore=shutil.ignore_patterns("*.wasm", "LICENSE", "NOTICE"))
-        pathlib.Path(top, "dist").mkdir()
-        for name in ["LICENSE", "NOTICE", "shamir32.wasm", "dist/shamir32.wasm"]:
-            if (ROOT / name).exists():
-                shutil.copy(ROOT / name, pathlib.Path(top, name))
-        ran(["npm", "pack", "--pack-destination", str(folder)], cwd=here, env=npm_settings(top))
+        mirrored(pathlib.Path(top), ["bindings/js"], "*.wasm", "LICENSE", "NOTICE")
+        mirrored(pathlib.Path(top), [name for name in ["LICENSE", "NOTICE", "shamir32.wasm", "dist/shamir32.wasm"] if (ROOT / name).exists()])
+        ran(["npm", "pack", "--pack-destination", str(folder)], cwd=f"{top}/bindings/js", env=npm_settings(top))
     return only_one(folder, "shamir-*.tgz")

@@ -1,17 +1,73 @@
-"""Loads tools whose names have no ending."""
+"""What several tools share."""
+import argparse
 import importlib.machinery
 import importlib.util
+import os
 import pathlib
+import re
+import shutil
+import subprocess
+import sys
 from types import ModuleType
+from typing import Any, Iterable, Sequence, Set, Union
 
-HERE = pathlib.Path(__file__).resolve().parent
+ROOT = pathlib.Path(__file__).resolve().parent.parent
 
 
 def tool(name: str) -> ModuleType:
-    """Returns one of the tools as a module."""
-    loader = importlib.machinery.SourceFileLoader(name, str(HERE / name))
+    """Returns one of the tools, whose names have no ending, as a module."""
+    loader = importlib.machinery.SourceFileLoader(name, str(ROOT / "tools" / name))
     spec = importlib.util.spec_from_loader(name, loader)
     assert spec is not None
     module = importlib.util.module_from_spec(spec)
     loader.exec_module(module)
     return module
+
+
+def of_makefile(name: str) -> str:
+    """Returns the value of a variable of the Makefile."""
+    [value] = re.findall(rf"^{name} = (.*)$", (ROOT / "Makefile").read_text(), re.MULTILINE)
+    return str(value)
+
+
+def ran(words: Sequence[Union[str, pathlib.Path]], **options: Any) -> str:
+    """Runs a command, at the top of the repository if no folder is given, and returns what it prints. If it fails, the tool prints that and exits."""
+    how = {"cwd": ROOT, "stdin": subprocess.DEVNULL, "stdout": subprocess.PIPE, "stderr": subprocess.STDOUT, "text": True}
+    done = subprocess.run(words, **{**how, **options})
+    if done.returncode:
+        sys.exit(f"{done.stdout}{done.stderr or ''}\n{' '.join(map(str, words[:4]))} .. ended with status {done.returncode}")
+    return str(done.stdout)
+
+
+def mirrored(top: pathlib.Path, names: Iterable[Union[str, pathlib.Path]], *without: str) -> None:
+    """Copies files and folders of the repository to the same places below another folder. Files of folders may be left out by patterns."""
+    for name in names:
+        (top / name).parent.mkdir(parents=True, exist_ok=True)
+        if (ROOT / name).is_dir():
+            shutil.copytree(ROOT / name, top / name, ignore=shutil.ignore_patterns("__pycache__", *without))
+        else:
+            shutil.copyfile(ROOT / name, top / name)
+
+
+def given_program() -> str:
+    """Returns the path of the program that a tool checks: the one that its option --program gives, or ./shamir."""
+    parser = argparse.ArgumentParser()
+    parser.add_argument("--program", default=str(ROOT / "shamir"))
+    return os.path.abspath(parser.parse_args().program)
+
+
+def commands_of(program: Union[str, pathlib.Path]) -> Set[str]:
+    """Returns the commands that the help of the program names."""
+    return set(re.findall(r"^  ([a-z]+)  ", ran([program, "--help"]), re.MULTILINE))
+
+
+def options_of(program: Union[str, pathlib.Path], *words: str) -> Set[str]:
+    """Returns the options that the help of the program or of a command names."""
+    return set(re.findall(r"^ +(?:-\w, )?(--[a-z-]+)", ran([program, *words, "--help"]), re.MULTILINE))
+
+
+def faults_library(folder: str, compiler: Sequence[str]) -> str:
+    """Compiles tools/faults.c as a library in a folder, and returns its path. A program into which it is preloaded has calls that fail."""
+    made = f"{folder}/faults.so"
+    ran([*compiler, "-O1", "-Wall", "-Wextra", "-shared", "-fPIC", "-o", made, ROOT / "tools" / "faults.c", "-ldl"])
+    return made

@@ -25,8 +25,6 @@ import argparse
 import os
 import pathlib
 import platform
-import shutil
-import subprocess
 import sys
 import tempfile
 from typing import List
@@ -40,7 +38,8 @@ import cases  # noqa: E402
 import ends  # noqa: E402
 import exits  # noqa: E402
 import frames  # noqa: E402
-from left_out import left_out  # noqa: E402
+from left_out import is_here, left_out  # noqa: E402
+from tool import faults_library  # noqa: E402
 
 COMPILER = os.environ.get("CC", "cc").split()
 INCLUDED = ["-O1", f"-I{ROOT}/include"]
@@ -60,27 +59,14 @@ def too_deep(archive: pathlib.Path) -> List[str]:
 
 def of_calls(archive: pathlib.Path) -> List[str]:
     """Checks the calls of the library. Returns what is wrong."""
-    if not shutil.which(COMPILER[0]):
-        left_out(f"{COMPILER[0]} isn't here, so nothing looks for what the calls of the library leave on the stack")
+    if not is_here(COMPILER[0], "nothing looks for what the calls of the library leave on the stack"):
         return []
     told, count, deepest = calls.all_leftovers([*COMPILER, *INCLUDED], str(archive), cases.LENGTHS, FRAMES)
-    if shutil.which("objdump"):
+    if is_here("objdump", "nothing says how far down a call can reach"):
         told += too_deep(archive)
-    else:
-        left_out("objdump isn't here, so nothing says how far down a call can reach")
     if not told:
         print(f"after each of {count} calls of the library, nothing secret is left on its stack; below {deepest} bytes, all of it is 0")
     return told
-
-
-def shim_in(folder: str) -> str:
-    """Compiles what refuses allocations. Returns where it is, or nothing without a compiler."""
-    if not shutil.which(COMPILER[0]):
-        left_out(f"{COMPILER[0]} isn't here, so the program isn't run without memory")
-        return ""
-    shim = f"{folder}/faults.so"
-    subprocess.run([*COMPILER, "-O1", "-shared", "-fPIC", "-o", shim, str(ROOT / "tools" / "faults.c"), "-ldl"], check=True)
-    return shim
 
 
 def of_runs(program: pathlib.Path) -> List[str]:
@@ -89,7 +75,8 @@ def of_runs(program: pathlib.Path) -> List[str]:
         left_out("programs can't be traced here, so nothing looks for what the program leaves in its memory")
         return []
     with tempfile.TemporaryDirectory() as folder:
-        told, count, deepest = ends.all_leftovers(program, shim_in(folder))
+        shim = faults_library(folder, COMPILER) if is_here(COMPILER[0], "the program isn't run without memory") else ""
+        told, count, deepest = ends.all_leftovers(program, shim)
     if not told:
         print(f"at the end of each of {count} runs of the program, nothing secret is in its memory; below {deepest} bytes, all of its stack is 0")
     return told

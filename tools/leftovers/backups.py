@@ -39,7 +39,7 @@ def created(plan: str, length: int, extendable: bool = False) -> Backup:
     draw = random.Random(f"{plan} {length}")
     secret = draw.randbytes(length)
     given = draw.randbytes(plain.random_needed(plain.parse_plan(plan), length))
-    return Backup(plan, secret, given, plain.create(plain.parse_plan(plan), secret, PASSPHRASE, 0, extendable, given))
+    return Backup(plan, secret, given, plain.new_backup(plan, secret, PASSPHRASE, extendable, given))
 
 
 def split_anew(plan: str, new_plan: str, length: int) -> Backup:

@@ -32,7 +32,7 @@ def with_fields(share: Dict[str, Any], **fields: Any) -> bytes:
 
 
 def other_value(share: Dict[str, Any]) -> bytes:
-    return with_fields(share, value=bytes([share["value"][0] ^ 1]) + share["value"][1:])
+    return with_fields(plain.flipped(share, 1))
 
 
 def wrong_word(line: bytes, place: int) -> bytes:

@@ -35,45 +35,20 @@ def lone(name, *, length=16, **fields):
     return share | fields
 
 
-def header(share):
-    number = 0
-    for field, width in zip(plain.FIELDS, plain.WIDTHS):
-        number = number << width | (share[field] - (field in plain.LESS_ONE))
-    return number
-
-
-def indices(share, count=None, number=None):
-    """Returns the indices of the words before the checksum. The value takes `count` words, and is `number` with its padding."""
-    count = -(-8 * len(share["value"]) // 10) if count is None else count
-    number = int.from_bytes(share["value"], "big") if number is None else number
-    data = header(share) << 10 * count | number
-    return [data >> 10 * place & 1023 for place in reversed(range(count + 4))]
-
-
-def closed(data, customization, constant=1):
-    """Returns the mnemonic of these indices, with the checksum for which the register ends at the constant."""
-    check = plain.polymod(list(customization) + data + [0, 0, 0]) ^ constant
-    return words(data + [check >> 20, check >> 10 & 1023, check & 1023])
-
-
-def words(data):
-    return " ".join(plain.WORDS[index] for index in data)
-
-
 def customization(share):
     return bytes(plain.customization(share["extendable"]))
 
 
 def spelled(share, count=None, number=None):
     """Returns the mnemonic of a share, or one with this number as its padded value, in `count` words. The checksum is right."""
-    return closed(indices(share, count, number), customization(share))
+    return plain.closed(plain.data_of(share, count, number), customization(share))
 
 
 def changed(mnemonic, place, by=1):
     """Returns a mnemonic with other bits in the index of one of its words."""
-    data = [plain.INDEX[word.encode()] for word in mnemonic.split(" ")]
+    data = plain.indices_of(mnemonic.split(" "))
     data[place] ^= by
-    return words(data)
+    return plain.spelled(data)
 
 
 def flipped(value, bit):

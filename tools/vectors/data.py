@@ -162,7 +162,8 @@ def table(found):
         "# Mistakes that the vectors find", "",
         "`tools/vectors` writes this page. Each row is a wrong reader or writer: a small change of the plain reading of the standard (`tools/plain.py`). "
         f"The third column names the first cases of [vectors.json](vectors.json) that catch it, at most {MOST_LISTED}. "
-        "Cases that a rule of the standard decides come before others. The last two columns say whether [slip-0039.json](slip-0039.json) and the 45 vectors that the standard publishes catch it.", "",
+        "Cases that a rule of the standard decides come before others. "
+        "The last two columns say whether [slip-0039.json](slip-0039.json) and the 45 vectors that the standard publishes catch it.", "",
         "| Mistake | The reader or writer | Caught by | slip-0039.json | published |", "|---|---|---|---|---|",
     ]
     for one in found:

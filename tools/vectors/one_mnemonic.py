@@ -1,7 +1,7 @@
 """Cases about one mnemonic: its length, padding, checksum, fields, and how its words are written."""
 import plain
 
-from backups import changed, closed, customization, drawn, indices, lone, spelled, words
+from backups import changed, customization, drawn, lone, spelled
 from case import Case
 
 FORMAT, CHECKSUM, LIST = "Format of the share mnemonic", "Checksum", "Wordlist"
@@ -23,10 +23,8 @@ def padding():
             about = f"Of {bits} padding bits, bit {bit + 1} is set, counted from the value."
             yield parse(f"{name}-bit-{bit + 1}", spelled(share, number=number | 1 << 8 * length + bit), about, "a padding bit that isn't looked at")
         if bits:
-            every = number | (1 << bits) - 1 << 8 * length
-            yield parse(
-                f"{name}-all", spelled(share, number=every), f"All of the {bits} padding bits are set.", "padding that is checked by a sum or a parity of its bits",
-            )
+            every, about = number | (1 << bits) - 1 << 8 * length, f"All of the {bits} padding bits are set."
+            yield parse(f"{name}-all", spelled(share, number=every), about, "padding that is checked by a sum or a parity of its bits")
 
 
 def of_words(count):
@@ -64,22 +62,20 @@ def checksum():
     other = {0: b"shamir_extendable", 1: b"shamir"}
     for length in (16, 32):
         for flag in (0, 1):
-            share = lone(f"checksum-{length}-bytes-flag-{flag}", length=length, extendable=flag)
-            data, name = indices(share), f"checksum-{length}-bytes-flag-{flag}"
-            yield parse(
-                f"{name}", spelled(share), f"The flag is {flag}, and the checksum is that of this flag.", "another generator or customization string",
-                CHECKSUM,
-            )
-            about = f"The flag is {flag}, and the checksum is that of the other flag."
-            yield parse(f"{name}-other", closed(data, other[flag]), about, "a checksum that doesn't depend on the flag", CHECKSUM)
-            yield parse(f"{name}-none", closed(data, b""), "The customization string is left out of the checksum.", "a missing customization string", CHECKSUM)
+            name = f"checksum-{length}-bytes-flag-{flag}"
+            share = lone(name, length=length, extendable=flag)
+            data = plain.data_of(share)
+            about = f"The flag is {flag}, and the checksum is that of"
+            yield parse(name, spelled(share), f"{about} this flag.", "another generator or customization string", CHECKSUM)
+            yield parse(f"{name}-other", plain.closed(data, other[flag]), f"{about} the other flag.", "a checksum that doesn't depend on the flag", CHECKSUM)
+            about = "The customization string is left out of the checksum."
+            yield parse(f"{name}-none", plain.closed(data, b""), about, "a missing customization string", CHECKSUM)
     share = lone("checksum-constant")
     for constant in (0, 2, 3, 1 | 1 << 10, 1 | 1 << 20, 1 | 1 << 29):
         about = f"The register of the checksum ends at {constant}, and not at 1."
-        yield parse(
-            f"checksum-constant-{constant}", closed(indices(share), customization(share), constant), about,
-            "a wrong last step of the checksum, or a part of it that isn't compared", CHECKSUM,
-        )
+        wrong = plain.closed(plain.data_of(share), customization(share), constant)
+        finds = "a wrong last step of the checksum, or a part of it that isn't compared"
+        yield parse(f"checksum-constant-{constant}", wrong, about, finds, CHECKSUM)
     sound = spelled(lone("checksum-word"))
     for place in range(20):
         about = f"The lowest bit in the index of word {place + 1} of 20 is changed."
@@ -98,10 +94,10 @@ def backwards():
     """Returns a mnemonic in reverse order, of which only the checksum is wrong."""
     for number in range(1000):
         sound = spelled(lone(f"checksum-backwards-{number}"))
-        reverse = [plain.INDEX[word.encode()] for word in sound.split(" ")[::-1]]
+        reverse = plain.indices_of(sound.split(" ")[::-1])
         try:
-            if not plain.parse(closed(reverse[:-3], b"shamir").encode())["extendable"]:
-                return words(reverse)
+            if not plain.parse(plain.closed(reverse[:-3], b"shamir").encode())["extendable"]:
+                return plain.spelled(reverse)
         except plain.Refusal:
             pass
     raise ValueError("no mnemonic can be read in reverse order")

@@ -12,7 +12,6 @@ import data
 import encrypted
 import readers
 import resplits
-from backups import closed, indices
 from case import differs
 
 PAGE = data.FOLDER / "README.md"
@@ -101,7 +100,7 @@ def check_electrum():
 
 def old_flag(share):
     """Returns a mnemonic as an Electrum reads it that doesn't know the extendable flag: with the checksum of other mnemonics."""
-    return closed(indices(share), b"shamir")
+    return plain.closed(plain.data_of(share), b"shamir")
 
 
 def check_sealed():

@@ -1,17 +1,14 @@
 """Asks other readers and writers what they answer: the library through its Python binding, the program, and Electrum."""
 import json
-import pathlib
 import re
 import subprocess
 import tempfile
 
 from case import FIELDS, refused
+from left_out import python_with
 
-# Debian installs Electrum for this Python.
-PYTHON = "/usr/bin/python3"
-SHOWN = re.compile(
-    r"identifier (\d+) extendable (\d+) exponent (\d+) group (\d+) group-threshold (\d+) group-count (\d+) member (\d+) member-threshold (\d+) value ([0-9a-f]+)\n"
-)
+NUMBERS = ["identifier", "extendable", "exponent", "group", "group-threshold", "group-count", "member", "member-threshold"]
+SHOWN = re.compile("".join(rf"{name} (\d+) " for name in NUMBERS) + r"value ([0-9a-f]+)\n")
 READER = """
 import json, sys
 from electrum import ELECTRUM_VERSION, slip39
@@ -75,49 +72,36 @@ def of_outcome(shamir, outcome):
     return {"names": outcome.names, "mismatch": "groups" if outcome.mismatch == shamir.OF_GROUPS else f"group {outcome.mismatch}"}
 
 
-def words_and_input(case):
-    """Returns the words of the command that asks the program for a case, and its input."""
+def words_and_input(case, random):
+    """Returns the words of the command that asks the program for a case, and its input. `random` is the name of a file with random bytes."""
     given = case.given
+    lines = "".join(line + "\n" for line in given.get("mnemonics", [])).encode()
+    passphrase = [f"--passphrase={given['passphrase']}"] if given.get("passphrase") else []
     if case.asks == "parse":
         return ["show"], given["mnemonic"].encode()
-    words = [f"--passphrase={given['passphrase']}"] if given["passphrase"] else []
+    if case.asks == "resplit":
+        return ["resplit", given["plan"], "--random-file", random], lines
     if case.asks == "create":
-        words += ["--exponent", str(given["exponent"]), *["--extendable"][: given["extendable"]]]
-        return ["create", given["plan"], f"--master-secret={given['secret']}", *words], bytes.fromhex(given["random"])
-    return [{"recover": "recover", "quorums": "drill"}[case.asks], *words], "".join(line + "\n" for line in given["mnemonics"]).encode()
+        words = ["create", given["plan"], f"--master-secret={given['secret']}", *passphrase, "--exponent", str(given["exponent"])]
+        return [*words, *["--extendable"][: given["extendable"]]], bytes.fromhex(given["random"])
+    return [{"recover": "recover", "quorums": "drill"}[case.asks], *passphrase], lines
 
 
 def of_program(program, case):
     """Returns what the program answers, or None for an empty mnemonic, which is no line of an input, and for what no command does."""
-    if case.asks in ("encrypted", "decrypt"):
+    if case.asks in ("encrypted", "decrypt") or case.asks == "parse" and not case.given["mnemonic"]:
         return None
-    if case.asks == "resplit":
-        return of_resplit(program, case)
-    words, data = words_and_input(case)
-    if words == ["show"] and not data:
-        return None
-    return of_command(program, case, words, data)
-
-
-def of_resplit(program, case):
-    """Returns what the program answers to a split anew, whose random bytes it reads from a file."""
-    with tempfile.NamedTemporaryFile() as kept:
-        kept.write(bytes.fromhex(case.given["random"]))
-        kept.flush()
-        words = ["resplit", case.given["plan"], "--random-file", kept.name]
-        return of_command(program, case, words, "".join(line + "\n" for line in case.given["mnemonics"]).encode())
-
-
-def of_command(program, case, words, data):
-    done = subprocess.run([program, *words], input=data, capture_output=True)
+    with tempfile.NamedTemporaryFile() as random:
+        random.write(bytes.fromhex(case.given.get("random", "")))
+        random.flush()
+        words, data = words_and_input(case, random.name)
+        done = subprocess.run([program, *words], input=data, capture_output=True)
     output, errors = done.stdout.decode(), done.stderr.decode()
     told = re.fullmatch(r"shamir: (?:line (\d+): )?(\d+) (.*)\n", errors)
     if told:
         line = {} if told[1] is None or case.asks == "parse" else {"line": int(told[1])}
         return {"refused": {"code": int(told[2])} | line | {"text": told[3]}}
-    if errors:
-        return {"failed": errors}
-    return PRINTED[case.asks](output)
+    return {"failed": errors} if errors else PRINTED[case.asks](output)
 
 
 def of_show(output):
@@ -152,9 +136,10 @@ PRINTED = {
 
 def of_electrum(cases):
     """Returns the version of Electrum and its answers to cases, each what it asks and what is given. Returns None if it isn't here."""
-    if not pathlib.Path(PYTHON).exists() or subprocess.run([PYTHON, "-c", "import electrum.slip39"], capture_output=True).returncode:
+    python = python_with("electrum.slip39")
+    if python is None:
         return None
-    done = subprocess.run([PYTHON, "-c", READER], input=json.dumps(cases), capture_output=True, text=True)
+    done = subprocess.run([python, "-c", READER], input=json.dumps(cases), capture_output=True, text=True)
     if done.returncode:
         raise RuntimeError(done.stderr)
     return json.loads(done.stdout)

@@ -93,9 +93,8 @@ def salts():
             share = lone("salts", id=id, extendable=flag)
             where = "isn't in the salt" if flag else "is in the salt, in two bytes"
             about = f"The flag is {flag}, so the identifier {id} {where}. All cases of this kind have one value."
-            yield recover(
-                f"salts-{id}-flag-{flag}", [share], about, "a salt that doesn't depend on the flag, or has the identifier in another form", ENCRYPTION,
-            )
+            finds = "a salt that doesn't depend on the flag, or has the identifier in another form"
+            yield recover(f"salts-{id}-flag-{flag}", [share], about, finds, ENCRYPTION)
 
 
 def secret_lengths():
@@ -143,20 +142,13 @@ def creations():
     groups = ["2/2of3,1of1,1of1", "1/2of3,3of4", "2/2of2,2of2", "3/1of1,2of3,3of5,1of1", "16/" + ",".join(["1of1"] * 16)]
     for plan in ["1of1", "2of2", "2of3", "3of3", "3of5", "2of16", "5of16", "16of16", *groups]:
         name = plan.replace("/", "-of-groups-").replace(",", "-") if len(plan) < 30 else "16-groups"
-        yield create(
-            f"creations-{name}", f"The plan is {plan}.", wrong,
-            plan,
-        )
+        yield create(f"creations-{name}", f"The plan is {plan}.", wrong, plan)
     for length in (18, 32, 64, 66, 128):
-        yield create(
-            f"creations-{length}-bytes", f"The secret has {length} bytes.", "a second block of PBKDF2, or padding that isn't as long", "2of3", length=length,
-            extendable=length % 4 == 2,
-        )
+        about, finds = f"The secret has {length} bytes.", "a second block of PBKDF2, or padding that isn't as long"
+        yield create(f"creations-{length}-bytes", about, finds, "2of3", length=length, extendable=length % 4 == 2)
     for exponent in (1, 2):
-        yield create(
-            f"creations-exponent-{exponent}", f"The exponent is {exponent}.", "a wrong number of iterations", "2of3", exponent=exponent,
-            extendable=exponent == 1,
-        )
+        about, finds = f"The exponent is {exponent}.", "a wrong number of iterations"
+        yield create(f"creations-exponent-{exponent}", about, finds, "2of3", exponent=exponent, extendable=exponent == 1)
     high = b"\xff\xff" + drawn("creations-identifier", 12)
     yield create("creations-identifier", "The first random bit isn't in the identifier, which has 15 bits.", "an identifier of 16 bits", "2of3", random=high)
     zero = bytes(plain.random_needed(plain.parse_plan("4of6"), 16))
@@ -177,15 +169,11 @@ def refused_creations():
         (0, "The secret is empty."), (14, "The secret has fewer than 128 bits."), (15, "The secret has an odd number of bytes, and fewer than 16."),
         (17, "The secret has an odd number of bytes."), (33, "The secret has an odd number of bytes."),
     ]:
-        yield create(
-            f"refused-creations-{length}-bytes", about, "a length that isn't checked", "2of3" if length else "1of1", standard="Generating the shares",
-            length=length,
-        )
+        plan, standard = "2of3" if length else "1of1", "Generating the shares"
+        yield create(f"refused-creations-{length}-bytes", about, "a length that isn't checked", plan, standard=standard, length=length)
     for how, text in [("31", "\x1f"), ("127", "TREZOR\x7f"), ("accent", "Z\u00fcrich")]:
-        yield create(
-            f"refused-creations-passphrase-{how}", "The passphrase isn't printable ASCII.", "a passphrase that isn't checked, though another program can't take it", "2of3",
-            standard=PASSPHRASES, passphrase=text,
-        )
+        about, finds = "The passphrase isn't printable ASCII.", "a passphrase that isn't checked, though another program can't take it"
+        yield create(f"refused-creations-passphrase-{how}", about, finds, "2of3", standard=PASSPHRASES, passphrase=text)
     for count in (13, 15):
         yield create(
             f"refused-creations-{count}-random-bytes", f"{count} random bytes are given, and 14 are needed.",

@@ -49,7 +49,8 @@ def refused_resplits():
     for first in ("1234", "9234"):
         about = f"The first two random bytes are {first}. Without their highest bit they are the identifier of the old backup."
         given = bytes.fromhex(first) + drawn("refused-resplits: random", 12)
-        yield resplit(f"refused-resplits-identifier-{first}", shares, about, "mnemonics of two backups that have one identifier", "2of3", standard=None, random=given)
+        finds = "mnemonics of two backups that have one identifier"
+        yield resplit(f"refused-resplits-identifier-{first}", shares, about, finds, "2of3", standard=None, random=given)
     for count in (0, 13, 15):
         about, given = f"{count} random bytes are given, and 14 are needed.", drawn("refused-resplits: few", count)
         yield resplit(f"refused-resplits-{count}-random-bytes", shares, about, "other random bytes than the caller thinks", "2of3", standard=None, random=given)

@@ -28,19 +28,15 @@ def agreement():
         ("length", lambda share: {"value": share["value"] + bytes(2)}),
         ("member-threshold", lambda share: {"member_threshold": 3}),
     ]:
-        finds = f"a reader that doesn't compare the {what.replace('-', ' ')} of all mnemonics"
+        field, needless = what.replace("-", " "), "The first two would be enough."
+        finds = f"a reader that doesn't compare the {field} of all mnemonics"
         first, needed, last, elsewhere = (share | other(share) for share in shares[:4])
-        yield recover(
-            f"agreement-{what}-last", [*shares[:2], last], f"The third mnemonic has another {what.replace('-', ' ')}. The first two would be enough.", finds,
-        )
-        yield recover(f"agreement-{what}-first", [first, *shares[1:3]], f"The first mnemonic has another {what.replace('-', ' ')} than the other two.", finds)
-        yield recover(f"agreement-{what}-needed", [shares[0], needed], f"Two mnemonics are needed, and the second has another {what.replace('-', ' ')}.", finds)
+        yield recover(f"agreement-{what}-last", [*shares[:2], last], f"The third mnemonic has another {field}. {needless}", finds)
+        yield recover(f"agreement-{what}-first", [first, *shares[1:3]], f"The first mnemonic has another {field} than the other two.", finds)
+        yield recover(f"agreement-{what}-needed", [shares[0], needed], f"Two mnemonics are needed, and the second has another {field}.", finds)
         if what != "member-threshold":
-            yield recover(
-                f"agreement-{what}-other-group", [*shares[:2], elsewhere],
-                f"A mnemonic of a group that isn't needed has another {what.replace('-', ' ')}.",
-                f"a reader that compares the {what.replace('-', ' ')} only within a group",
-            )
+            about, finds = f"A mnemonic of a group that isn't needed has another {field}.", f"a reader that compares the {field} only within a group"
+            yield recover(f"agreement-{what}-other-group", [*shares[:2], elsewhere], about, finds)
     upper = shares[2] | {"id": shares[2]["id"] ^ 1 << 14}
     yield recover(
         "agreement-identifier-first-word", [*shares[:2], upper], "The third mnemonic has another identifier, and only its first word tells.",

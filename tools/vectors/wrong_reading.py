@@ -1,16 +1,17 @@
 """Mistakes of a reader about one mnemonic. Each is a name, what the reader does, and texts of tools/plain.py with what becomes of them."""
 
 SPLIT = 'words = re.split(rb"[ \\t\\r]+", line.lower())'
+NOT_EMPTY = "return [word for word in words if word]"
 LENGTHS = "if bits < 128 or padding > 8 or (bits - padding)"
 PADDING = "if value >> bits - padding:"
 # Without its padding bits, the value fits into its bytes.
 MASKED = ('share["value"] = value.to_bytes', 'share["value"] = (value & (1 << bits - padding) - 1).to_bytes')
-CHECK = 'if polymod(customization(share["extendable"]) + indices) != 1:'
+REGISTER = 'polymod(customization(share["extendable"]) + indices)'
+CHECK = f"if {REGISTER} != 1:"
+ABOVE = 'if share["group_threshold"] > share["group_count"]:'
 FIELD = "share[name] = (header & (1 << width) - 1)"
 ORDER = '"group", "group_threshold", "group_count", "member", "member_threshold"]'
 LESS = '{"group_threshold", "group_count", "member_threshold"}'
-
-
 NEAR = """
 def meant(word):
     near = [other for other in INDEX if len(other) == len(word) and sum(a != b for a, b in zip(word, other)) == 1]
@@ -20,6 +21,10 @@ def meant(word):
 """
 
 
+def exchanged(one, other):
+    return ORDER, ORDER.replace(f"{one}, {other}", f"{other}, {one}")
+
+
 def cut(field, bits):
     return FIELD, f'share[name] = (header & (1 << ({bits} if name == "{field}" else width)) - 1)'
 
@@ -27,7 +32,7 @@ def cut(field, bits):
 WORDS = [
     (
         "four-letters", "takes each word by its first four letters",
-        ("    words = [word for word in words if word]\n", "    words = [FOUR.get(word[:4], word) for word in words if word]\n"),
+        (NOT_EMPTY, NOT_EMPTY.replace("[word", "[FOUR.get(word[:4], word)")),
         ("GENERATOR = [", "FOUR = {word[:4]: word for word in INDEX}\nGENERATOR = ["),
     ),
     ("commas", "ignores commas", (SPLIT, SPLIT.replace("line", 'line.replace(b",", b" ")'))),
@@ -40,7 +45,7 @@ WORDS = [
     ),
     (
         "one-letter", "takes a word for the only one that differs from it in one letter",
-        ("    words = [word for word in words if word]\n", "    words = [meant(word) for word in words if word]\n"),
+        (NOT_EMPTY, NOT_EMPTY.replace("[word", "[meant(word)")),
         ("GENERATOR = [", NEAR + "GENERATOR = ["),
     ),
     ("byte-order-mark", "skips a byte order mark and zero bytes", (SPLIT, 'words = re.split(rb"[ \\t\\r\\0]+|\\xef\\xbb\\xbf", line.lower())')),
@@ -51,7 +56,7 @@ LENGTH = [
     ("more-padding", "takes more than 8 padding bits", (LENGTHS, "if bits < 128 or (bits - padding)")),
     ("any-length", "takes any number of words", (LENGTHS, "if -(bits - padding)")),
     ("less-padding", "takes at most 7 padding bits", (LENGTHS, "if bits < 128 or padding >= 8 or (bits - padding)")),
-    ("two-lengths", "takes only 20 or 33 words", (LENGTHS, "if len(indices) not in (20, 33) or (bits - padding)")),
+    ("two-lengths", "takes only 20 or 33 words", (LENGTHS, "if count not in (20, 33) or (bits - padding)")),
     ("32-bytes", "takes values of at most 32 bytes", ("MAX_SECRET_BYTES = 128", "MAX_SECRET_BYTES = 32")),
     ("130-bytes", "takes values of more than 128 bytes", ("MAX_SECRET_BYTES = 128", "MAX_SECRET_BYTES = 130")),
     ("whole-words", "takes only values of a multiple of 4 bytes", (LENGTHS, "if bits < 128 or padding > 8 or (bits - padding) % 32 or (bits - padding)")),
@@ -76,7 +81,12 @@ def checked(condition):
 
 def without(place):
     other = f"indices[:{place}] + [indices[{place}] ^ 1] + indices[{place + 1}:]"
-    return checked(f'1 not in [polymod(customization(share["extendable"]) + words) for words in (indices, {other})]')
+    return checked(f"1 not in [{REGISTER.replace('indices', 'words')} for words in (indices, {other})]")
+
+
+def swapped(places):
+    other = "indices[:i] + indices[i:i + 2][::-1] + indices[i + 2:]"
+    return checked(f"1 not in [{REGISTER.replace('indices', other)} for i in {places}]")
 
 
 CHECKSUMS = [
@@ -85,73 +95,40 @@ CHECKSUMS = [
     ("checksum-new", "knows only the customization string `shamir_extendable`", checked('polymod(list(b"shamir_extendable") + indices) != 1')),
     ("checksum-either", "takes the checksum of either flag", checked("1 not in [polymod(customization(flag) + indices) for flag in (0, 1)]")),
     ("checksum-other", "takes the flag for its opposite in the checksum", checked('polymod(customization(not share["extendable"]) + indices) != 1')),
-    (
-        "checksum-no-string", "also takes a checksum without a customization string",
-        checked('1 not in [polymod(customization(share["extendable"]) + indices), polymod(indices)]'),
-    ),
-    ("checksum-zero", "also takes a register of 0", checked('polymod(customization(share["extendable"]) + indices) > 1')),
-    ("checksum-any-constant", "takes a register below 4", checked('polymod(customization(share["extendable"]) + indices) > 3')),
-    (
-        "checksum-last-two-words", "compares only the last two words of the checksum",
-        checked('polymod(customization(share["extendable"]) + indices) & 0xFFFFF != 1'),
-    ),
-    ("checksum-first-two-words", "compares only the first two words of the checksum", checked('polymod(customization(share["extendable"]) + indices) >> 10')),
-    (
-        "checksum-outer-words", "compares only the first and the last word of the checksum",
-        checked('polymod(customization(share["extendable"]) + indices) & 0x3FF003FF != 1'),
-    ),
-    ("checksum-29-bits", "compares only 29 bits of the checksum", checked('polymod(customization(share["extendable"]) + indices) & 0x1FFFFFFF != 1')),
-    (
-        "checksum-of-two-lengths", "compares the checksum only of 20 or 33 words",
-        checked('len(indices) in (20, 33) and polymod(customization(share["extendable"]) + indices) != 1'),
-    ),
-    ("checksum-backwards", "computes the checksum from the last word on", checked('polymod(customization(share["extendable"]) + indices[::-1]) != 1')),
+    ("checksum-no-string", "also takes a checksum without a customization string", checked(f"1 not in [{REGISTER}, polymod(indices)]")),
+    ("checksum-zero", "also takes a register of 0", checked(f"{REGISTER} > 1")),
+    ("checksum-any-constant", "takes a register below 4", checked(f"{REGISTER} > 3")),
+    ("checksum-last-two-words", "compares only the last two words of the checksum", checked(f"{REGISTER} & 0xFFFFF != 1")),
+    ("checksum-first-two-words", "compares only the first two words of the checksum", checked(f"{REGISTER} >> 10")),
+    ("checksum-outer-words", "compares only the first and the last word of the checksum", checked(f"{REGISTER} & 0x3FF003FF != 1")),
+    ("checksum-29-bits", "compares only 29 bits of the checksum", checked(f"{REGISTER} & 0x1FFFFFFF != 1")),
+    ("checksum-of-two-lengths", "compares the checksum only of 20 or 33 words", checked(f"len(indices) in (20, 33) and {REGISTER} != 1")),
+    ("checksum-backwards", "computes the checksum from the last word on", checked(f"{REGISTER.replace('indices', 'indices[::-1]')} != 1")),
     ("checksum-generator", "has one bit wrong in the generator", ("0x3F3F120", "0x3F3F121")),
-    (
-        "checksum-order", "also takes a mnemonic with two words swapped",
-        checked('1 not in [polymod(customization(share["extendable"]) + indices[:i] + indices[i:i + 2][::-1] + indices[i + 2:]) for i in range(8, 11)]'),
-    ),
+    ("checksum-order", "also takes a mnemonic with two words swapped", swapped(range(8, 11))),
     *((f"checksum-without-word-{place}", f"also takes a mnemonic whose word {place} is wrong in its last bit", without(place - 1)) for place in (1, 2, 10)),
 ]
 
 FIELDS = [
-    (
-        "group-threshold-unchecked", "doesn't compare the group threshold with the group count",
-        ('if share["group_threshold"] > share["group_count"]:', "if False:"),
-    ),
+    ("group-threshold-unchecked", "doesn't compare the group threshold with the group count", (ABOVE, "if False:")),
     (
         "group-index-checked", "refuses a group index that isn't below the group count",
-        (
-            'if share["group_threshold"] > share["group_count"]:',
-            'if share["group_threshold"] > share["group_count"] or share["group"] >= share["group_count"]:',
-        ),
+        (ABOVE, ABOVE.replace(":", ' or share["group"] >= share["group_count"]:')),
     ),
     (
         "group-threshold-below", "refuses a group threshold that is equal to the group count",
-        ('if share["group_threshold"] > share["group_count"]:', 'if share["group_threshold"] >= share["group_count"] > 1:'),
+        (ABOVE, 'if share["group_threshold"] >= share["group_count"] > 1:'),
     ),
     (
         "member-index-checked", "refuses a member index that isn't below the member threshold",
-        (
-            'if share["group_threshold"] > share["group_count"]:',
-            'if share["group_threshold"] > share["group_count"] or share["member"] >= share["member_threshold"]:',
-        ),
+        (ABOVE, ABOVE.replace(":", ' or share["member"] >= share["member_threshold"]:')),
     ),
     ("numbers-as-stored", "reads thresholds and counts as they are stored", (LESS, "set()")),
     ("member-threshold-as-stored", "reads the member threshold as it is stored", (LESS, '{"group_threshold", "group_count"}')),
-    (
-        "indices-less-one", "takes indices for numbers that are stored less one",
-        (LESS, '{"group_threshold", "group_count", "member_threshold", "member", "group"}'),
-    ),
+    ("indices-less-one", "takes indices for numbers that are stored less one", (LESS, LESS.replace("}", ', "member", "group"}'))),
     ("five-bits-of-exponent", "takes the flag for a bit of the exponent", ("WIDTHS = [15, 1, 4,", "WIDTHS = [15, 0, 5,")),
-    (
-        "group-fields-swapped", "swaps group threshold and group count",
-        (ORDER, ORDER.replace('"group_threshold", "group_count"', '"group_count", "group_threshold"')),
-    ),
-    (
-        "member-fields-swapped", "swaps member index and member threshold",
-        (ORDER, ORDER.replace('"member", "member_threshold"', '"member_threshold", "member"')),
-    ),
+    ("group-fields-swapped", "swaps group threshold and group count", exchanged('"group_threshold"', '"group_count"')),
+    ("member-fields-swapped", "swaps member index and member threshold", exchanged('"member"', '"member_threshold"')),
     ("exponent-cut", "reads three bits of the exponent", cut("exponent", 3)),
     ("identifier-cut", "reads 14 bits of the identifier", cut("id", 14)),
     ("member-index-cut", "reads three bits of the member index", cut("member", 3)),

@@ -12,6 +12,9 @@ FIRST = "first = backup[quorum[0]]"
 THRESHOLDS = 'thresholds = {share["group"]: share["member_threshold"] for share in backup.values()}'
 MEMBER_THRESHOLD = 'if other["group"] == share["group"] and other["member_threshold"]'
 DIGEST = "return secret if digest(key[4:], secret) == key[:4] else None"
+LENGTH = 'if len(other["value"]) != len(share["value"]):'
+COMBINED = 'share = combine(backup[members[0]]["member_threshold"], points)'
+COMBINED_GROUPS = 'encrypted = combine(first["group_threshold"], shares)'
 HMAC = 'return hmac.digest(key, secret, "sha256")[:4]'
 PLACES = "secret, key = interpolate(shares, 255), interpolate(shares, 254)"
 PRODUCT = "POWER[(log + LOG[b]) % 255] if b else 0"
@@ -20,8 +23,6 @@ PASSWORD = "bytes([i]) + passphrase, prefix"
 KEY = 'return hashlib.pbkdf2_hmac("sha256", bytes([i]) + passphrase, prefix + half, 2500 << params["exponent"], len(half))'
 ITERATIONS = '2500 << params["exponent"]'
 PRINTABLE = "if not 32 <= byte <= 126:"
-
-
 COMPARED = "if other[name] != share[name]:"
 AGREEING = [
     (21, "id", "identifier"), (22, "extendable", "extendable flag"), (23, "exponent", "exponent"),
@@ -46,11 +47,8 @@ AGREEMENT = [
     *((f"{what.replace(' ', '-')}-in-groups", f"compares the {what} only within a group", in_groups(field)) for _, field, what in AGREEING),
     ("identifier-first-word", "compares only the ten bits of the identifier that the first word has", part_of_identifier(">> 5")),
     ("identifier-second-word", "compares only the five bits of the identifier that the second word has", part_of_identifier("& 31")),
-    ("length-uncompared", "doesn't compare lengths", ('if len(other["value"]) != len(share["value"]):', "if False:")),
-    (
-        "length-in-groups", "compares lengths only within a group",
-        ('if len(other["value"]) != len(share["value"]):', 'if other["group"] == share["group"] and len(other["value"]) != len(share["value"]):'),
-    ),
+    ("length-uncompared", "doesn't compare lengths", (LENGTH, "if False:")),
+    ("length-in-groups", "compares lengths only within a group", (LENGTH, LENGTH.replace("if", 'if other["group"] == share["group"] and'))),
     (
         "last-group-threshold", "doesn't compare group thresholds, and takes that of the last mnemonic",
         uncompared(24, "group_threshold", "group threshold"), (REQUIRED, REQUIRED.replace("next(iter(backup.values()))", "list(backup.values())[-1]")),
@@ -93,19 +91,21 @@ SET = [
     ("no-quorums", "lists no quorums in place of a refusal", ('raise Refusal(30, f"incomplete: {len(complete)} of {required} groups")', "return []")),
 ]
 
+
+def matching(condition):
+    return DIGEST, f"return secret if {condition} else None"
+
+
 def part_of_digest(part):
-    return DIGEST, f"return secret if digest(key[4:], secret)[{part}] == key[:4][{part}] else None"
+    return matching(f"digest(key[4:], secret)[{part}] == key[:4][{part}]")
 
 
 DIGESTS = [
     ("digest-unchecked", "ignores digests", (DIGEST, "return secret")),
-    (
-        "member-digest-unchecked", "ignores the digests of members",
-        ('share = combine(backup[members[0]]["member_threshold"], points)', 'share = points[0][1] if len(points) == 1 else interpolate(points, 255)'),
-    ),
+    ("member-digest-unchecked", "ignores the digests of members", (COMBINED, "share = points[0][1] if len(points) == 1 else interpolate(points, 255)")),
     (
         "group-digest-unchecked", "ignores the digest of groups",
-        ('encrypted = combine(first["group_threshold"], shares)', "encrypted = shares[0][1] if len(shares) == 1 else interpolate(shares, 255)"),
+        (COMBINED_GROUPS, "encrypted = shares[0][1] if len(shares) == 1 else interpolate(shares, 255)"),
     ),
     *((f"digest-{how}", f"compares only {what} of the digest", part_of_digest(part)) for how, what, part in [
         ("first-byte", "the first byte", ":1"), ("first-three-bytes", "the first three bytes", ":3"),
@@ -113,24 +113,18 @@ DIGESTS = [
     ]),
     (
         "digest-seven-bits", "compares only seven bits of each byte of the digest",
-        (DIGEST, "return secret if all((a ^ b) & 127 == 0 for a, b in zip(digest(key[4:], secret), key[:4])) else None"),
+        matching("all((a ^ b) & 127 == 0 for a, b in zip(digest(key[4:], secret), key[:4]))"),
     ),
-    (
-        "digest-any-order", "takes the bytes of the digest in any order",
-        (DIGEST, "return secret if sorted(digest(key[4:], secret)) == sorted(key[:4]) else None"),
-    ),
+    ("digest-any-order", "takes the bytes of the digest in any order", matching("sorted(digest(key[4:], secret)) == sorted(key[:4])")),
     ("digest-of-two", "ignores digests if the threshold is above 2", (DIGEST, DIGEST.replace("if digest", "if threshold > 2 or digest"))),
     (
         "digest-of-first-group", "compares the digest of the first group only, and that of the groups",
-        (
-            'share = combine(backup[members[0]]["member_threshold"], points)',
-            'share = combine(backup[members[0]]["member_threshold"], points) if not shares or len(points) == 1 else interpolate(points, 255)',
-        ),
+        (COMBINED, f"{COMBINED} if not shares or len(points) == 1 else interpolate(points, 255)"),
     ),
     ("digest-key-is-secret", "swaps the key and the message of the digest", (HMAC, 'return hmac.digest(secret, key, "sha256")[:4]')),
     ("digest-hash", "takes a plain hash for the digest", (HMAC, "return hashlib.sha256(key + secret).digest()[:4]")),
     ("digest-end", "takes the last four bytes of the HMAC", (HMAC, 'return hmac.digest(key, secret, "sha256")[-4:]')),
-    ("digest-whole-key", "takes the whole digest share for the key", (DIGEST, "return secret if digest(key, secret) == key[:4] else None")),
+    ("digest-whole-key", "takes the whole digest share for the key", matching("digest(key, secret) == key[:4]")),
     ("digest-of-one", "wants a digest of a share that needs no other", ("    if threshold == 1:\n        return shares[0][1]\n", "")),
 ]
 

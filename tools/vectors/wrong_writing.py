@@ -1,40 +1,26 @@
 """Mistakes of a writer: a creation from a plan, a secret and random bytes, or a backup whose encrypted secret is split anew."""
 
-CHECK = 'check = polymod(customization(share["extendable"]) + data + [0, 0, 0]) ^ 1'
+IDENTIFIER = 'int.from_bytes(two, "big") % 2**15'
+DIGEST = "(254, digest(key, secret) + key)"
+CHECK = 'closed(data_of(share), customization(share["extendable"]))'
+VALUE = 'number = int.from_bytes(share["value"], "big")'
 LENGTH = "if n % 2 or not 16 <= n <= MAX_SECRET_BYTES:"
+GROUPS = "if len(groups) > 16 or threshold > len(groups):"
 NEW = '"id": identifier_of(take(2)), "extendable": old["extendable"], "exponent": old["exponent"]}'
 
 WRITING = [
-    (
-        "written-padding-behind", "writes the padding behind the value",
-        (
-            'number = header << bits | int.from_bytes(share["value"], "big")',
-            'number = header << bits | int.from_bytes(share["value"], "big") << bits - 8 * len(share["value"])',
-        ),
-    ),
-    (
-        "written-checksum-old", "writes the checksum of the flag 0 for every flag",
-        (CHECK, CHECK.replace('customization(share["extendable"])', 'list(b"shamir")')),
-    ),
-    ("written-checksum-constant", "leaves out the last step of the checksum", (CHECK, CHECK.replace(" ^ 1", ""))),
-    (
-        "written-identifier", "takes the upper 15 bits of the random bytes for the identifier",
-        ('int.from_bytes(two, "big") % 2**15', 'int.from_bytes(two, "big") >> 1'),
-    ),
+    ("written-padding-behind", "writes the padding behind the value", (VALUE, f'{VALUE} << 10 * count - 8 * len(share["value"])')),
+    ("written-checksum-old", "writes the checksum of the flag 0 for every flag", (CHECK, 'closed(data_of(share), b"shamir")')),
+    ("written-checksum-constant", "leaves out the last step of the checksum", (CHECK, CHECK.replace('"]))', '"]), 0)'))),
+    ("written-identifier", "takes the upper 15 bits of the random bytes for the identifier", (IDENTIFIER, 'int.from_bytes(two, "big") >> 1')),
     (
         "written-group-count", "writes the greatest index of a group in place of the group count",
         ('"group_count": len(groups), "member": m', '"group_count": max(1, len(groups) - 1), "member": m'),
     ),
-    (
-        "written-rounds", "encrypts with the rounds in the order of decryption",
-        ("return feistel(secret, passphrase, params, range(4))", "return feistel(secret, passphrase, params, range(3, -1, -1))"),
-    ),
-    (
-        "written-unencrypted", "splits the secret unencrypted",
-        ("split_by_plan(plan, encrypt(secret, passphrase, params), params, take)", "split_by_plan(plan, secret, params, take)"),
-    ),
-    ("written-digest-behind", "has the digest behind its key", ("(254, digest(key, secret) + key)", "(254, key + digest(key, secret))")),
-    ("written-no-digest", "splits without a digest", ("(254, digest(key, secret) + key)", "(254, bytes(4) + key)")),
+    ("written-rounds", "encrypts with the rounds in the order of decryption", ("params, range(4))", "params, range(3, -1, -1))")),
+    ("written-unencrypted", "splits the secret unencrypted", ("(plan, encrypt(secret, passphrase, params), params, take)", "(plan, secret, params, take)")),
+    ("written-digest-behind", "has the digest behind its key", (DIGEST, "(254, key + digest(key, secret))")),
+    ("written-no-digest", "splits without a digest", (DIGEST, "(254, bytes(4) + key)")),
     (
         "written-secret-at-0", "has the secret at 0",
         (
@@ -49,11 +35,8 @@ WRITING = [
     ("written-one-of-many", "makes several members of which one is enough", ("if t == 1 and n > 1:", "if False:")),
     ("written-member-threshold", "takes a member threshold above the number of members", ("if n > 16 or t > n:", "if n > 16:")),
     ("written-members", "makes more than 16 members", ("if n > 16 or t > n:", "if t > n:")),
-    (
-        "written-group-threshold", "takes a group threshold above the number of groups",
-        ("if len(groups) > 16 or threshold > len(groups):", "if len(groups) > 16:"),
-    ),
-    ("written-groups", "makes more than 16 groups", ("if len(groups) > 16 or threshold > len(groups):", "if threshold > len(groups):")),
+    ("written-group-threshold", "takes a group threshold above the number of groups", (GROUPS, "if len(groups) > 16:")),
+    ("written-groups", "makes more than 16 groups", (GROUPS, "if threshold > len(groups):")),
     ("written-odd-length", "takes a secret of an odd number of bytes", (LENGTH, "if not 16 <= n <= MAX_SECRET_BYTES:")),
     ("written-short-secret", "takes a secret of fewer than 128 bits", (LENGTH, "if n % 2 or not 8 <= n <= MAX_SECRET_BYTES:")),
     ("written-any-length", "takes a secret of any length", (LENGTH, "if n > MAX_SECRET_BYTES:")),
@@ -65,7 +48,10 @@ WRITING = [
     ("resplit-identifier", "gives a backup that is split anew the identifier of the old one", (NEW, NEW.replace("identifier_of(take(2))", 'old["id"]'))),
     ("resplit-random-twice", "uses the first two random bytes twice in a backup that is split anew", (NEW, NEW.replace("take(2)", "random[:2]"))),
     ("resplit-secret", "splits the decrypted secret anew", ("encrypted = combined(backup, quorum)", 'encrypted = outcome(backup, quorum, b"TREZOR")')),
-    ("resplit-last-quorum", "splits anew what the last quorum combines to", ("quorum = quorums(backup)[0]\n    encrypted", "quorum = quorums(backup)[-1]\n    encrypted")),
+    (
+        "resplit-last-quorum", "splits anew what the last quorum combines to",
+        ("quorum = quorums(backup)[0]\n    encrypted", "quorum = quorums(backup)[-1]\n    encrypted"),
+    ),
     ("resplit-not-extendable", "splits a backup anew that isn't extendable", ('if not old["extendable"]:', "if False:")),
     ("resplit-same-identifier", "splits a backup anew under the same identifier", ('if params["id"] == old["id"]:', "if False:")),
 ]
