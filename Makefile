@@ -238,8 +238,9 @@ check-secrets: shamir libshamir.a $(TIMING)
 check-page: shamir $(PAGE)
 	@$(MAKE) $(SIDE_BY_SIDE) $(PAGE_CHECKS)
 
-# If checks need several of these, one is built after the other: two provers at a time would prove the same crates.
-ifneq ($(filter check%,$(MAKECMDGOALS)),)
+# If checks need several of these, one is built after the other: two provers at a time would prove the same crates. check-portable
+# needs no program.
+ifneq ($(filter-out check-portable,$(filter check%,$(MAKECMDGOALS))),)
 libshamir.a: | shamir
 $(TIMING): | libshamir.so $(if $(filter checks,$(MAKECMDGOALS)),shamir.wasm)
 endif
