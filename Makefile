@@ -299,11 +299,11 @@ check-rust: libshamir.so
 	$(PART) tools/rust
 
 # Without wasm-opt there is no shamir32.wasm, and the check says so.
-check-portable: libshamir.so $(if $(WASM_OPT),shamir32.wasm)
+check-portable: libshamir.so $(SONAME) $(if $(WASM_OPT),shamir32.wasm)
 	$(PART) $(PYTHON) tools/check_portable
 
 # Without a cross compiler nothing is built for arm64, and the check says so.
-check-arm64: shamir libshamir.so $(PAGE) $(if $(shell command -v $(CROSS_TARGET)-gcc 2> /dev/null),$(CROSS)/shamir $(CROSS)/$(SONAME))
+check-arm64: shamir libshamir.so $(SONAME) $(PAGE) $(if $(shell command -v $(CROSS_TARGET)-gcc 2> /dev/null),$(CROSS)/shamir $(CROSS)/$(SONAME))
 	$(PART) $(PYTHON) tools/check_arm64
 
 check-js: shamir.wasm $(PAGE)
