@@ -238,8 +238,9 @@ check-secrets: shamir libshamir.a $(TIMING)
 check-page: shamir $(PAGE)
 	@$(MAKE) $(SIDE_BY_SIDE) $(PAGE_CHECKS)
 
-# If checks need several of these, one is built after the other: two provers at a time would prove the same crates.
-ifneq ($(filter check%,$(MAKECMDGOALS)),)
+# If checks need several of these, one is built after the other: two provers at a time would prove the same crates. check-portable
+# needs no program.
+ifneq ($(filter-out check-portable,$(filter check%,$(MAKECMDGOALS))),)
 libshamir.a: | shamir
 $(TIMING): | libshamir.so $(if $(filter checks,$(MAKECMDGOALS)),shamir.wasm)
 endif
@@ -304,11 +305,11 @@ check-rust: libshamir.so
 	$(PART) tools/rust
 
 # Without wasm-opt there is no shamir32.wasm, and the check says so.
-check-portable: libshamir.so $(if $(WASM_OPT),shamir32.wasm)
+check-portable: libshamir.so $(SONAME) $(if $(WASM_OPT),shamir32.wasm)
 	$(PART) $(PYTHON) tools/check_portable
 
 # Without a cross compiler nothing is built for arm64, and the check says so.
-check-arm64: shamir libshamir.so $(PAGE) $(if $(shell command -v $(CROSS_TARGET)-gcc 2> /dev/null),$(CROSS)/shamir $(CROSS)/$(SONAME))
+check-arm64: shamir libshamir.so $(SONAME) $(PAGE) $(if $(shell command -v $(CROSS_TARGET)-gcc 2> /dev/null),$(CROSS)/shamir $(CROSS)/$(SONAME))
 	$(PART) $(PYTHON) tools/check_arm64
 
 check-js: shamir.wasm $(PAGE)

@@ -8,8 +8,15 @@
 #define NO_MEMORY_TEXT "no memory left for the call"
 #define SHARE_BYTES 10u
 #define PARAMETERS_BYTES 4u
-/* A frame of the generated part has at most this many bytes, with those of functions that it calls and that don't move the pointer. */
+/*
+ * A frame of the generated part has at most this many bytes, with those of functions that it calls and that don't move the pointer.
+ * Without optimisation, a frame alone can have 21 kB.
+ */
+#ifdef __OPTIMIZE__
+#define FRAMES_BYTES 16384u
+#else
 #define FRAMES_BYTES 32768u
+#endif
 #define PARTS_MAX 4
 
 /* What a call is given, which `begin` copies to the address `at`. */

@@ -7,8 +7,9 @@ In an empty folder, `cc` builds the library and runs the published vectors, and 
 warnings. It exports the calls of the header alone. On generated calls, the builds for each processor and system give the
 answers of libshamir.so, without writing past an output: on x86-64 with gcc, clang, their sanitizers and threads, for other processors
 under qemu, and for Windows under wine, where the published vectors run too. Without memory each call refuses, and the memory of a call is
-clear when it is freed. On x86-64, no call leaves anything secret on the stack, and no branch and no address depends on secret bytes but as
-timing.py says. --only names words: the parts run whose names have one of them.
+clear when it is freed. If the stack of the module overflows, the program stops. On x86-64, no call leaves anything secret on the C stack, or
+needs more of it than the header says, and no branch and no address depends on secret bytes but as timing.py says. --only names words: the
+parts run whose names have one of them.
 
 With --speed, it measures calls beside those of libshamir.a, and checks nothing.
 
@@ -70,11 +71,12 @@ def builds_to_compare(calls: List[str], right: List[str]) -> List[Task]:
 
 
 def on_x86_64() -> List[Task]:
-    """Returns a task for each build in which the stack is looked at after each call, or branches are that may depend on secrets."""
+    """Returns a task for each build in which the stack is looked at, or branches are that may depend on secrets."""
     if platform.machine() != "x86_64":
         left_out("this isn't x86-64, so nothing looks for what dist/c leaves on the stack, or for branches of it that depend on secrets")
         return []
     looked = [(target, [target.compiler], stack.is_cleared) for target in stack.TARGETS]
+    looked += [(target, [target.compiler], stack.has_room) for target in stack.DEEP]
     looked += [(target, [target.compiler, "valgrind"], timing.is_even) for target in timing.TARGETS]
     return [task for target, programs, check in looked for task in with_programs(target.name, programs, functools.partial(check, target))]
 
@@ -86,6 +88,7 @@ def other_tasks() -> List[Task]:
         *with_programs("what shamir.c exports", ["gcc", "nm"], sources.has_right_symbols),
         *with_programs("the form", ["gcc"], sources.compiles_strictly),
         *with_programs("a lack of memory", ["gcc"], sources.refuses_without_memory),
+        *with_programs("an overflow of the stack", ["gcc"], sources.stops_at_an_overflow),
         *with_programs("the worked examples", ["gcc"], sources.has_worked_examples),
         *with_programs("the installation", ["cmake", "cc"], install.is_installed),
     ]

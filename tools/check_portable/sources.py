@@ -3,6 +3,8 @@ exports and takes, and that an empty folder with them gives a working library.""
 import pathlib
 import re
 import shutil
+import signal
+import subprocess
 from typing import Set
 
 import builds
@@ -15,6 +17,8 @@ LIBC = {"memcpy", "memmove", "memset", "malloc", "free"}
 OF_COMPILER = {"_GLOBAL_OFFSET_TABLE_", "__stack_chk_fail"}
 FIRST_CALL = r"0\.0\+0\.1 ([0-9a-f]{8})\n0\.0\+0\.2 \1\n0\.1\+0\.2 \1\nend\n"
 NO_MEMORY = worked.Answer(4, "no memory left for the call")
+# Where the stack pointer of the module begins, and where it begins if the stack has no room for any call that needs some.
+POINTER, LOW_POINTER = "c->m.lowest = STACK_BYTES;", "c->m.lowest = 512;"
 IN_CXX = """
 #include "shamir.h"
 int main()
@@ -94,6 +98,21 @@ def refuses_without_memory(folder: str) -> None:
         program = driver.built(f"{folder}/driver", ["gcc"], *words, f"-I{builds.DIST}", str(builds.HERE / "no_memory.c"))
         worked.check(["env", "ASAN_OPTIONS=detect_leaks=0", program], made)
         worked.check(["env", "ASAN_OPTIONS=detect_leaks=0", "EMPTY=1", program], refused)
+
+
+def stops_at_an_overflow(folder: str) -> None:
+    """Makes calls over a stack of the module that is too small. The program must stop before anything is written outside."""
+    source = (builds.DIST / "shamir.c").read_text()
+    if source.count(POINTER) != 1:
+        raise Failed("shamir.c doesn't set the stack pointer of the module where this check lowers it")
+    pathlib.Path(folder, "small.c").write_text(source.replace(POINTER, LOW_POINTER))
+    program = driver.built(f"{folder}/driver", ["gcc"], "-O0", *builds.SANITIZED, f"-I{builds.DIST}", f"{folder}/small.c")
+    made = {it.call: next(worked.calls_of(it))[0] for it in worked.examples() if it.answer.code == 0}
+    statuses = {call: subprocess.run([program], input=line.encode(), capture_output=True).returncode for call, line in made.items()}
+    going_on = sorted(call for call, status in statuses.items() if status != -signal.SIGILL)
+    # This call needs no stack of the module.
+    if going_on != ["version"]:
+        raise Failed(f"calls go on after the stack of the module overflows: {going_on}")
 
 
 def has_worked_examples(folder: str) -> None:

@@ -1,7 +1,11 @@
-"""Looks for what calls of the library as plain C leave on the stack, as tools/leftovers does for the native library."""
+"""Looks for what calls of the library as plain C leave on the stack, as tools/leftovers does for the native library, and how much they need."""
 import sys
+from typing import List
 
+import agreement
 import builds
+import driver
+import largest
 from builds import ROOT, Failed
 
 sys.path[:0] = [str(ROOT / "tools" / "leftovers"), str(ROOT / "tools")]
@@ -12,6 +16,11 @@ TARGETS = [
     builds.Target("the stack with gcc -O2", "gcc", ["-O2"]),
     builds.Target("the stack with gcc -Os", "gcc", ["-Os"]),
     builds.Target("the stack with clang -O2", "clang", ["-O2"]),
+]
+DEEP = [
+    builds.Target("the largest calls with gcc -O2", "gcc", ["-O2"]),
+    builds.Target("the largest calls with gcc -O0", "gcc", ["-O0"]),
+    builds.Target("the largest calls with clang -O2", "clang", ["-O2"]),
 ]
 # The lengths of the secrets.
 LENGTHS = [16, 128]
@@ -28,3 +37,15 @@ def is_cleared(target: builds.Target, folder: str) -> str:
     if told:
         raise Failed(f"{target.name}: something is left on the stack\n  " + "\n  ".join(told[:SHOWN]))
     return f"{target.name}: after each of {count} calls, nothing secret is left on the stack; below {deepest} bytes, all of it is 0"
+
+
+def has_room(target: builds.Target, folder: str) -> str:
+    """Makes the largest calls on a stack of the size that the header names, and compares their answers. Returns how much of it they touch."""
+    made: List[str] = largest.calls()
+    words = [target.compiler, "-O1", "-DTHREADED", "-pthread", f"-I{builds.DIST}"]
+    program = driver.built(f"{folder}/driver", words, builds.compiled(target.compiler, *target.words))
+    *found, touched = driver.answers([program], made, "stack")
+    told = agreement.difference(target.name, made, found, builds.answers(None, builds.native(folder), made))
+    if told:
+        raise Failed(told)
+    return f"{target.name}: they touch {touched} bytes of the stack"
