@@ -3,6 +3,8 @@
     python3 tools/fuzz c [--seconds N] [WORD..]        libFuzzer over dist/c, with clang and its sanitizers (target.c)
     python3 tools/fuzz python [--seconds N] [--seed S]  the Python package beside a plain reading of the standard (tools/plain.py)
 
+bindings/rust/fuzz has a target for `cargo fuzz`, with the same inputs.
+
 It takes a minute by default, and exits with another status than 0 if something is wrong. Further words go to libFuzzer. What it finds is left in
 this folder as crash-SUM. The target in C takes half a minute to build.
 """

@@ -1,7 +1,11 @@
-"""Writes the cases of vectors/ as inputs of the targets."""
+"""Writes the cases of vectors/ as inputs of the targets.
+
+    python3 tools/fuzz/corpus.py FOLDER
+"""
 import itertools
 import json
 import pathlib
+import sys
 from typing import Iterator
 
 ROOT = pathlib.Path(__file__).resolve().parents[2]
@@ -29,3 +33,7 @@ def write(folder: pathlib.Path) -> int:
     for number, data in enumerate(found):
         (folder / f"vector-{number}").write_bytes(data)
     return len(found)
+
+
+if __name__ == "__main__":
+    print(write(pathlib.Path(sys.argv[1])), "inputs")
