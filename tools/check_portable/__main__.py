@@ -8,8 +8,8 @@ warnings. It exports the calls of the header alone. On generated calls, the buil
 answers of libshamir.so, without writing past an output: on x86-64 with gcc, clang, their sanitizers and threads, for other processors
 under qemu, and for Windows under wine, where the published vectors run too. Without memory each call refuses, and the memory of a call is
 clear when it is freed. If the stack of the module overflows, the program stops. On x86-64, no call leaves anything secret on the C stack, or
-needs more of it than the header says, and no branch and no address depends on secret bytes but as timing.py says. --only names words: the
-parts run whose names have one of them.
+needs more of it than the header says, and no branch and no address depends on secret bytes but as timing.py says. For no processor, a frame
+is so large that a call could clear too little. --only names words: the parts run whose names have one of them.
 
 With --speed, it measures calls beside those of libshamir.a, and checks nothing.
 
@@ -81,9 +81,16 @@ def on_x86_64() -> List[Task]:
     return [task for target, programs, check in looked for task in with_programs(target.name, programs, functools.partial(check, target))]
 
 
+def frames_to_look_at() -> List[Task]:
+    """Returns a task for each build in which the frames of functions are looked at. It is for those that are compared too."""
+    targets = [it for it in [*builds.NATIVE, *builds.EMULATED] if shutil.which(it.compiler)]
+    return [(f"the frames of {it.name}", functools.partial(stack.has_small_frames, it)) for it in targets]
+
+
 def other_tasks() -> List[Task]:
     return [
         *on_x86_64(),
+        *frames_to_look_at(),
         *with_programs("the empty folder", ["cc"], sources.works_in_an_empty_folder),
         *with_programs("what shamir.c exports", ["gcc", "nm"], sources.has_right_symbols),
         *with_programs("the form", ["gcc"], sources.compiles_strictly),

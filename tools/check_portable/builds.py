@@ -91,7 +91,8 @@ LOCKS: DefaultDict[Tuple[str, ...], threading.Lock] = defaultdict(threading.Lock
 
 
 def compiled(compiler: str, *words: str) -> str:
-    """Compiles shamir.c without a warning, once for each compiler and its words. Returns the file, or says what is wrong."""
+    """Compiles shamir.c without a warning, once for each compiler and its words. Returns the file, or says what is wrong. The frames of
+    its functions are in a file beside it."""
     with LOCKS[(compiler, *words)]:
         return compiled_once(compiler, *words)
 
@@ -99,7 +100,7 @@ def compiled(compiler: str, *words: str) -> str:
 @functools.cache
 def compiled_once(compiler: str, *words: str) -> str:
     to = str(OBJECTS / (re.sub("[^A-Za-z0-9]+", "-", " ".join([compiler, *words])) + ".o"))
-    run([compiler, "-std=c99", "-pedantic", *STRICT, *words, "-c", str(DIST / "shamir.c"), "-o", to])
+    run([compiler, "-std=c99", "-pedantic", *STRICT, *words, "-fstack-usage", "-c", str(DIST / "shamir.c"), "-o", to])
     return to
 
 

@@ -17,8 +17,8 @@ LIBC = {"memcpy", "memmove", "memset", "malloc", "free"}
 OF_COMPILER = {"_GLOBAL_OFFSET_TABLE_", "__stack_chk_fail"}
 FIRST_CALL = r"0\.0\+0\.1 ([0-9a-f]{8})\n0\.0\+0\.2 \1\n0\.1\+0\.2 \1\nend\n"
 NO_MEMORY = worked.Answer(4, "no memory left for the call")
-# Where the stack pointer of the module begins, and where it begins if the stack has no room for any call that needs some.
-POINTER, LOW_POINTER = "c->m.lowest = STACK_BYTES;", "c->m.lowest = 512;"
+# The module may use so many bytes below its stack pointer.
+RED_ZONE = 128
 IN_CXX = """
 #include "shamir.h"
 int main()
@@ -101,18 +101,19 @@ def refuses_without_memory(folder: str) -> None:
 
 
 def stops_at_an_overflow(folder: str) -> None:
-    """Makes calls over a stack of the module that is too small. The program must stop before anything is written outside."""
+    """Moves the stack pointer of the module to the ends of its stack and past them. The generated part must move it in no other way."""
     source = (builds.DIST / "shamir.c").read_text()
-    if source.count(POINTER) != 1:
-        raise Failed("shamir.c doesn't set the stack pointer of the module where this check lowers it")
-    pathlib.Path(folder, "small.c").write_text(source.replace(POINTER, LOW_POINTER))
-    program = driver.built(f"{folder}/driver", ["gcc"], "-O0", *builds.SANITIZED, f"-I{builds.DIST}", f"{folder}/small.c")
-    made = {it.call: next(worked.calls_of(it))[0] for it in worked.examples() if it.answer.code == 0}
-    statuses = {call: subprocess.run([program], input=line.encode(), capture_output=True).returncode for call, line in made.items()}
-    going_on = sorted(call for call, status in statuses.items() if status != -signal.SIGILL)
-    # This call needs no stack of the module.
-    if going_on != ["version"]:
-        raise Failed(f"calls go on after the stack of the module overflows: {going_on}")
+    [stack] = map(int, re.findall(r"^#define STACK_BYTES (\d+)u$", source, re.MULTILINE))
+    # SET_POINTER moves it, and a call lets it begin.
+    if source.count("pointer = ") != 2:
+        raise Failed("shamir.c moves the stack pointer of the module without a look at the ends of the stack")
+    program = f"{folder}/overflow"
+    run(["gcc", "-O1", "-std=c99", f"-I{builds.DIST}", str(builds.HERE / "overflow.c"), "-o", program])
+    for inside, pointers in [(True, [RED_ZONE, stack]), (False, [0, RED_ZONE - 1, stack + 1, 2**32, 2**64 - 16])]:
+        for pointer in pointers:
+            status = subprocess.run([program, str(pointer)]).returncode
+            if status != (0 if inside else -signal.SIGILL):
+                raise Failed(f"with the stack pointer {pointer} of {stack}, the program ends with status {status}")
 
 
 def has_worked_examples(folder: str) -> None:

@@ -1,4 +1,5 @@
 """Looks for what calls of the library as plain C leave on the stack, as tools/leftovers does for the native library, and how much they need."""
+import pathlib
 import sys
 from typing import List
 
@@ -26,6 +27,8 @@ DEEP = [
 LENGTHS = [16, 128]
 # Only so many bytes below the caller may be other than 0: the frame of the call itself, which has nothing secret.
 FRAME = 1024
+# A call clears FRAMES_BYTES of packaging/portable/adapter.c below the deepest frame that it notes, with room for four of these.
+LARGEST_FRAME = 4096
 SHOWN = 8
 
 
@@ -49,3 +52,12 @@ def has_room(target: builds.Target, folder: str) -> str:
     if told:
         raise Failed(told)
     return f"{target.name}: they touch {touched} bytes of the stack"
+
+
+def has_small_frames(target: builds.Target, folder: str) -> str:
+    """Sees that no frame of a build is so large that a call could clear too little."""
+    usage = pathlib.Path(builds.compiled(target.compiler, *target.words)).with_suffix(".su").read_text()
+    largest = max(int(line.split("\t")[1]) for line in usage.splitlines())
+    if largest > LARGEST_FRAME:
+        raise Failed(f"{target.name}: a frame has {largest} bytes")
+    return f"{target.name}: the largest frame has {largest} bytes"
