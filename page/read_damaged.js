@@ -26,7 +26,8 @@ export async function readDamaged(desk) {
   if (fit === null) return;
   const { index, kind } = fit;
   await writeAndTypeBack(desk, { index, name: kind.name, takes: saidTakesAlone(kind) }, kind.words, 2);
-  const what = { title: say("damaged.check.title"), intro: say("damaged.check.intro"), passphrase: say("damaged.passphrase"), drill: say("damaged.drill"), steps: [4, 5, 6], repaired: kind.name };
+  const titles = { title: say("damaged.check.title"), passphrase: say("damaged.passphrase"), drill: say("damaged.drill") };
+  const what = { ...titles, intro: say("damaged.check.intro"), steps: [4, 5, 6], repaired: kind.name };
   await collectAndCheck(desk, what, () => [paragraph(say("damaged.too_few"), "note")]);
 }
 

@@ -88,7 +88,8 @@ export function typeBack(desk, { index, name, shown = name }, place, words) {
       }
     });
     const again = button(say("back.again", { name: shown }), () => resolve(false));
-    show(say("back.title", { name: shown }), null, paragraph(place, "place"), paragraph(say("back.how")), entry.element, element("div", { class: "buttons" }, again));
+    const told = [paragraph(place, "place"), paragraph(say("back.how"))];
+    show(say("back.title", { name: shown }), null, ...told, entry.element, element("div", { class: "buttons" }, again));
     entry.focus();
   });
 }

@@ -20,7 +20,8 @@ import { ask, setStep } from "./screen.js";
 export async function askWallet(desk, chosen, { title, step, asksWords = false }) {
   setStep(step);
   const { version } = desk.begun;
-  const wallets = /** @type {const} */ (["flag", "older", "unknown"]).map((key) => ({ key, label: say(`wallet.${key}`), hint: say(`wallet.${key}.hint`, { version }) }));
+  const keys = /** @type {const} */ (["flag", "older", "unknown"]);
+  const wallets = keys.map((key) => ({ key, label: say(`wallet.${key}`), hint: say(`wallet.${key}.hint`, { version }) }));
   const asked = [choice(say("wallet.legend"), wallets, chosen.wallet, (key) => (chosen.wallet = key)), paragraph(say("wallet.what"), "hint")];
   if (asksWords) {
     const counts = USUAL_WORDS.map((count) => ({ key: String(count), label: say("entry.words", { count }), hint: say(`wallet.words.${count}.hint`) }));

@@ -325,7 +325,10 @@ ONE_LINE = """
 })()
 """
 # Whether the buttons that take papers out stand in the rows of these papers, and aren't below their names.
-BESIDE = "[...document.querySelectorAll('.found .rows li')].every((it) => it.getBoundingClientRect().height < 2 * it.querySelector('button').getBoundingClientRect().height)"
+BESIDE = """
+[...document.querySelectorAll('.found .rows li')]
+  .every((it) => it.getBoundingClientRect().height < 2 * it.querySelector('button').getBoundingClientRect().height)
+"""
 PHONE = (390, 844)
 # Returns the texts that reach beyond their boxes.
 CUT = """

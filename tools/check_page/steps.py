@@ -6,7 +6,11 @@ from texts import counted, say
 
 
 # Returns where the way back stands.
-PLACE = "(({ left, top }) => `${Math.round(left)} ${Math.round(top + scrollY)}`)([...document.querySelectorAll('#main button')].find((it) => it.textContent === '%s').getBoundingClientRect())"
+PLACE = """
+(({ left, top }) => `${Math.round(left)} ${Math.round(top + scrollY)}`)(
+  [...document.querySelectorAll('#main button')].find((it) => it.textContent === '%s').getBoundingClientRect(),
+)
+"""
 
 
 def go_back(page, title):
