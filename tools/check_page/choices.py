@@ -362,10 +362,11 @@ def check_phone(page, see):
                 raise Failed(f"with the answer {text!r}, this is out of sight: {it}")
         if not page.evaluate(COLUMNS % ".word").startswith("down 2 columns"):
             raise Failed(f"the fields run {page.evaluate(COLUMNS % '.word')}")
+        # A picture of the whole page may scroll it, so it is taken last.
+        if line == SOUND_PAPER and not page.evaluate(IN_SIGHT % "document.querySelector('#main button.primary')"):
+            raise Failed("the button that goes on with papers that are enough is out of sight")
         see(f"phone {'sound' if line == SOUND_PAPER else 'wrong'} paper")
         if line == SOUND_PAPER:
-            if not page.evaluate(IN_SIGHT % "document.querySelector('#main button.primary')"):
-                raise Failed("the button that goes on with papers that are enough is out of sight")
             if not page.evaluate(BESIDE):
                 raise Failed("the button that takes a paper out doesn't stand beside its name")
             page.go_to("button", say("collect.drop", name="0.0"))
