@@ -32,7 +32,8 @@
  *
  * Each call but shamir_wipe returns a shamir_answer. If its code is SHAMIR_DONE, the call succeeded. The output is at the start
  * of the output buffer, and the bytes after it are unchanged. The answer's field "written" is the length of the output. Any
- * other code is a refusal. On refusal the output buffer and the output struct are unchanged, and "written" is 0.
+ * other code is a refusal. On refusal the output buffer is unchanged, and "written" is 0. The output struct is unchanged too, unless
+ * the output buffer is too short: then the struct is as after success.
  *
  * Before a call that gets a secret, a passphrase or a mnemonic returns, it clears the stack that it used. This is tested, not
  * proved. It clears no registers. The caller clears its own buffers, with shamir_wipe. examples/c/cleared.c keeps them out of swap
@@ -218,7 +219,8 @@ typedef struct shamir_parameters {
  * refuses that word with 11.
  *
  * The fields go to *share, and the value goes to the start of value. written is its length, an even number from
- * SHAMIR_SECRET_BYTES_MIN to SHAMIR_SECRET_BYTES_MAX. The value is as secret as the mnemonic.
+ * SHAMIR_SECRET_BYTES_MIN to SHAMIR_SECRET_BYTES_MAX. The value is as secret as the mnemonic. If you only want the fields, let
+ * value_bytes be 0: the call then refuses with 1, and *share has the fields.
  *
  * The call refuses with the first of these that applies: 11 to 15, 1.
  *
@@ -254,7 +256,7 @@ shamir_answer shamir_random_needed(const char *plan, size_t plan_bytes, size_t s
  * secret        the master secret: an even number of bytes, SHAMIR_SECRET_BYTES_MIN to SHAMIR_SECRET_BYTES_MAX
  * passphrase    an additional secret, which a recovery needs too: printable ASCII, from the space to ~; it may be empty
  * exponent      the iteration exponent, 0 to SHAMIR_EXPONENT_MAX
- * extendable    0, or any other number to set the extendable flag, which leaves the identifier out of the encryption
+ * extendable    1 to set the extendable flag, which leaves the identifier out of the encryption, or 0
  * random        exactly as many bytes as shamir_random_needed gives; they must be unpredictable, and no other backup may use
  *               them
  * mnemonics     the output: the mnemonics in the order of groups and members, with a line feed after each; an output buffer
@@ -274,7 +276,7 @@ shamir_answer shamir_random_needed(const char *plan, size_t plan_bytes, size_t s
  * The call takes 10,000 * 2^exponent iterations of PBKDF2, and twice as many for a secret of more than 64 bytes. If mnemonics
  * is too short, the call refuses with 1 only after these iterations, and first is the length of all mnemonics.
  *
- * The call refuses with the first of these that applies: 2 (an exponent above 15), 31 to 34, 41, 42, 43, 1.
+ * The call refuses with the first of these that applies: 2 (an exponent above 15, or extendable above 1), 31 to 34, 41, 42, 43, 1.
  *
  *     static char mnemonics[SHAMIR_MNEMONICS_BYTES_MAX];
  *     shamir_answer answer = shamir_create("2of3", 4, secret, 16, "", 0, 0, 1, random, 14, mnemonics, sizeof mnemonics);
@@ -323,7 +325,8 @@ shamir_answer shamir_recover(
  * asks for the passphrase each time can keep the encrypted secret, with its parameters, in place of the mnemonics.
  *
  * The parameters go to *parameters, and the encrypted secret goes to the start of encrypted. written is its length, which is that of
- * the secret. If the backup has no passphrase, the encrypted secret with its parameters is as secret as the secret itself.
+ * the secret. If you only want the parameters, let encrypted_bytes be 0: the call then refuses with 1, and *parameters has them. If
+ * the backup has no passphrase, the encrypted secret with its parameters is as secret as the secret itself.
  *
  * The call refuses with the first of these that applies: the code of the first refused line (11 to 28, 71), 29, 30, 51, 1.
  *

@@ -1084,6 +1084,9 @@ static void check_creation(void)
     expect("shamir_create",
            wrote(shamir_create(PLAN, strlen(PLAN), secret, bytes, KEY, strlen(KEY), 0, 0, chance, count, text, sizeof text),
                  FIRST SECOND THIRD FOURTH FIFTH));
+    expect("shamir_create with another flag",
+           shamir_create(PLAN, strlen(PLAN), secret, bytes, KEY, strlen(KEY), 0, 2, chance, count, text, sizeof text).code ==
+               SHAMIR_E_OUT_OF_RANGE);
     expect("shamir_fingerprint", wrote(shamir_fingerprint(secret, bytes, text, sizeof text), "df41d8fe"));
 }
 
@@ -1118,6 +1121,8 @@ static void check_reading(void)
     expect("shamir_parse", answer.code == SHAMIR_DONE && answer.written == 16 && share.id == 1 && share.extendable == 0 &&
            share.exponent == 0 && share.group_index == 0 && share.group_threshold == 2 && share.group_count == 3 &&
            share.member_index == 0 && share.member_threshold == 2);
+    answer = shamir_parse(SECOND, strlen(SECOND) - 1, &share, NULL, 0);
+    expect("shamir_parse without a room", answer.code == SHAMIR_E_TOO_SHORT && answer.first == 16 && share.member_index == 1);
     expect("shamir_status", wrote(shamir_status(four, strlen(four), text, sizeof text),
            "groups 2 of 2\ngroup 0 members 2 of 2 0.0+0.1\ngroup 1 members 1 of 1 1.0\n"));
     answer = shamir_quorums(four, strlen(four));
