@@ -1,7 +1,7 @@
 -- What is said on standard error, from what the parts say.
-use Rattle.std.proofs.Common.{◌≡◌, ◌⊎◌, ◌≤◌, ◌∙◌, ◌++◌, ⊎_elim, ℕ, All, Bool, Bor, IsFalse, true, false, List, [], Option, Result, Ok, Err, ap, arith, inl, inr, length, refl, subst, sym, true≢false}
+use Rattle.std.proofs.Common.{◌≡◌, ◌⊎◌, ◌≤◌, ◌∙◌, ◌++◌, ⊎_elim, ℕ, All, Bool, Bor, IsFalse, true, false, List, Option, Result, Ok, Err, ap, arith, inl, inr, length, refl, subst, sym, true≢false}
 use Rattle.std.proofs.KnownBytes.{Appends-trans}
-use Rattle.clap.specs.Words.{Text, fault_of, takes}
+use Rattle.clap.specs.Words.{Text}
 use Rattle.s39_kdf.specs.Limits.{IsPrintable}
 use Rattle.s39_backup.specs.declared.plan_error.PlanError.{PlanError}
 use Rattle.s39_backup.specs.declared.plan_error.PlanError.TheVariants.{BadPlan, PlanGroups, PlanMembers, OneOfMany}
@@ -13,16 +13,9 @@ use Rattle.s39_input.specs.Accepted.{IsCheckedSet}
 use Rattle.s39_input.specs.Input.{Input, whole}
 use Rattle.s39_input.specs.Steps.{Then, gives, refuses, nothing_for}
 use Rattle.s39_input.proofs.Sets.Checked.{printable_of_checked}
-use Rattle.s39_command.specs.declared.command.BadValues.{BadValues}
-use Rattle.s39_command.specs.declared.command.Call.{Call}
 use Rattle.s39_command.specs.declared.command.Job.{Job}
 use Rattle.s39_command.specs.declared.command.Job.TheVariants as job
-use Rattle.s39_command.specs.declared.command.NoJob.{NoJob}
-use Rattle.s39_command.specs.declared.command.NoJob.TheVariants.{Help, Refused, Values, Memory}
-use Rattle.s39_command.specs.Command.{AnswersWords, GivesCall, shamir_app}
-use Rattle.s39_command.proofs.Jobs.{asks_none}
 use Rattle.s39_cli.specs.declared.messages.Messages.{Messages}
-use Rattle.s39_cli.specs.declared.runner.Destination.{Destination}
 use Rattle.s39_cli.specs.declared.runner.Ended.{Ended}
 use Rattle.s39_cli.specs.declared.runner.Ended.TheVariants.{With, NoMemory}
 use Rattle.s39_cli.specs.declared.runner.Source.{Source}
@@ -33,13 +26,12 @@ use Rattle.s39_cli.specs.declared.work.Work.{Work}
 use Rattle.s39_cli.specs.declared.work.Work.TheVariants as work
 use Rattle.s39_reading.specs.Recover.{WritesSecret}
 use Rattle.s39_drilling.specs.Drill.{WritesDrillOf}
-use Rattle.s39_cli.specs.Ending.{Delivers, HasStatus, IsTyped, OnEnd}
+use Rattle.s39_cli.specs.Ending.{Delivers, HasStatus}
 use Rattle.s39_cli.specs.Outcome.{HasBadPlan, IsReady, judged, status_of, status_of_refusal, where_done, without_mismatches}
-use Rattle.s39_cli.specs.Said.{HasFormlessPlan, IsSaid, IsSaidAs, IsSaidBy, IsSaidOfCall, IsSaidOfJob, IsSaidUnbegun, IsSaidWithoutJob, IsSilentAtNone}
-use Rattle.s39_cli.specs.Said.{IsAllOf, IsBehind, IsWithin, OnStatus, Says, SaysBeside, SaysFault, SaysMessage, SaysOnceRead, longest_message, memory_line, plan_form_line}
+use Rattle.s39_cli.specs.Said.{HasFormlessPlan, IsSaidBy, IsSaidOfJob, IsSaidUnbegun, IsSilentAtNone}
+use Rattle.s39_cli.specs.Said.{IsWithin, OnStatus, Says, SaysBeside, SaysFault, SaysMessage, SaysOnceRead, longest_message, memory_line}
 use Rattle.s39_cli.specs.Unready.{IsUnready}
-use Rattle.s39_cli.specs.Said.{IsNamedIn, bare_line, input_lines, is_attended, late_lines, is_terminal, line_if, long_line, secret_line, shown_line, tells_of_none, typed_line, types_mnemonics, types_passphrase, typing_line, work_input_lines, work_late_lines}
-use Rattle.s39_cli.specs.Values.{TakesValues, Told}
+use Rattle.s39_cli.specs.Said.{bare_line, input_lines, late_lines, is_terminal, line_if, types_mnemonics, types_passphrase, typing_line, work_input_lines, work_late_lines}
 use Rattle.s39_cli.specs.Work.{HasBadPassphrase, IsWorkOf, IsWorkOutput}
 use Rattle.s39_cli.proofs.Works.{ready_of_work}
 use Rattle.s39_cli.proofs.Formless.{formed_by_cursor, formed_by_fingerprint, formed_by_names, formed_if_other, formed_if_ready, formless_if_bad}

@@ -1,5 +1,5 @@
 -- What is said beside the answer of a run.
-use Rattle.std.proofs.Common.{◌≡◌, ◌++◌, ◌∙◌, ℕ, Bool, arith, inl, inr, true, false, List, [], Option, Some, None, Result, Ok, Err, ap, refl, subst, sym}
+use Rattle.std.proofs.Common.{◌≡◌, ◌∙◌, ℕ, Bool, arith, inl, inr, true, false, List, [], Option, Some, None, Result, Ok, Err, ap, refl, subst, sym}
 use Rattle.std.proofs.KnownBytes.{Appends-nil, Appends-trans}
 use Rattle.clap.specs.Words.{Text}
 use Rattle.s39_words.specs.declared.ShareFields.{ShareFields}
@@ -14,7 +14,7 @@ use Rattle.s39_input.specs.Runs.{OfInput}
 use Rattle.s39_input.specs.Steps.{gives, refuses}
 use Rattle.s39_cli.specs.declared.messages.Messages.{Messages}
 use Rattle.s39_cli.specs.declared.work.Work.{Work}
-use Rattle.s39_cli.specs.Ending.{AreAllOf, HandsOn}
+use Rattle.s39_cli.specs.Ending.{HandsOn}
 use Rattle.s39_cli.specs.Outcome.{judged}
 use Rattle.s39_cli.specs.Said.{IsAllOf, Says, SaysBeside, SaysOnceRead, bare_line, line_if, read_lines, set_lines, work_input_lines, work_late_lines}
 use Rattle.s39_cli.proofs.Deliveries.{of_all}
@@ -26,14 +26,14 @@ line_if_nothing false = refl
 
 -- a reader has some input
 some_input : (told : Option (List ℕ)) → (input : Input) × IsAllOf told input
-some_input None = (whole [], [], tt, refl)
-some_input (Some bytes) = (whole bytes, bytes, refl, refl)
+some_input None = (whole [], ([], tt, refl))
+some_input (Some bytes) = (whole bytes, (bytes, refl, refl))
 
 -- a set is what its input is read as
 read_of_checked : (passphrase : List ℕ) (input : Input) (set : List ShareFields) → IsCheckedSet passphrase input (Ok set) → read_as input ≡ Ok set
 read_of_checked passphrase input set (refuses bad first is) = absurd (cc)
 read_of_checked passphrase input set (gives _ printable (refuses stop read is)) = absurd (cc)
-read_of_checked passphrase input set (gives _ printable (gives other read is)) = read ∙ sym is
+read_of_checked passphrase input set (gives _ printable (gives other read is)) = let same : other ≡ set = cc in read ∙ ap Ok same
 
 module _ {R E : Type 0} (remaining : R → Option (List ℕ)) (contents : E → Option (List ℕ)) (reader : R) where
   -- nothing is said, and there is nothing to say
@@ -57,14 +57,14 @@ module _ {R E : Type 0} (remaining : R → Option (List ℕ)) (contents : E → 
       ∙ line_if_nothing attended)
 
   -- beside a refusal nothing is said
-  pub unsaid_refusal : {T : Type 0} (lines : Input → Text) (fault : Fault) (old : Messages E)
-      → SaysOnceRead {T = T} remaining contents lines reader (Err fault) old old
-  unsaid_refusal lines fault old = let (input, all) = some_input (remaining reader) in (input, all, (λ _. refl))
+  pub unsaid_refusal : (T : Type 0) (lines : Input → Text) (fault : Fault) (old : Messages E)
+      → SaysOnceRead remaining contents {T = T} lines reader (Err fault) old old
+  unsaid_refusal T lines fault old = let (input, all) = some_input (remaining reader) in (input, all, (λ _. refl))
 
   -- of a failed writer it isn't known what is said
-  pub unsaid_failure : {T : Type 0} (lines : Input → Text) (old new : Messages E)
-      → SaysOnceRead {T = T} remaining contents lines reader (Err (fault_of (Device Write))) old new
-  unsaid_failure lines old new = let (input, all) = some_input (remaining reader) in (input, all, (λ one. omega (arith, one)))
+  pub unsaid_failure : (T : Type 0) (lines : Input → Text) (old new : Messages E)
+      → SaysOnceRead remaining contents {T = T} lines reader (Err (fault_of (Device Write))) old new
+  unsaid_failure T lines old new = let (input, all) = some_input (remaining reader) in (input, all, (λ one. absurd (omega (arith, one))))
 
   -- the same beside what is judged by an answer
   pub said_judged : {T : Type 0} (is_well : T → Bool) (lines : Input → Text) (found : Result T Fault) (given : Result Bool Fault) (old new : Messages E)
@@ -85,22 +85,24 @@ module _ {R E : Type 0} (remaining : R → Option (List ℕ)) (contents : E → 
     all,
     (λ is.
         let more = then is in
-        let before = first more.0 in
-        (before.0, Appends-trans (contents old.device) (contents mid.device) (contents new.device) (line_if attended (work_input_lines w input))
-        (line_if tells bare_line) before.1 more.1)),
+        let before = first more.0 in (
+          before.0,
+          Appends-trans (contents old.device) (contents mid.device) (contents new.device) (line_if attended (work_input_lines w input))
+              (line_if tells bare_line) before.1 more.1,
+        )),
   )
   said_both w attended tells (Err fault) old mid new (input, all, first) then = (input, all, (λ one. then one ∙ first one))
 
   -- what is handed on to a writer leaves what is said
-  pub said_behind : {lines : Input → Text} {held last : Option (List ℕ)} {old new : Messages E} (input : R) → reader ≡ input
+  pub said_behind : (lines : Input → Text) (held last : Option (List ℕ)) (old new : Messages E) (input : R) → reader ≡ input
       → (answer given : Result Bool Fault) → SaysOnceRead remaining contents lines reader answer old new → HandsOn held last answer given
       → SaysOnceRead remaining contents lines input given old new
-  said_behind {lines} {held} {last} {old} {new} input is answer given says (inl (same, kept)) =
+  said_behind lines held last old new input is answer given says (inl (same, kept)) =
       subst (λ (r : R). SaysOnceRead remaining contents lines r given old new) is
       (subst (λ (a : Result Bool Fault). SaysOnceRead remaining contents lines reader a old new) (sym same) says)
-  said_behind {lines} {held} {last} {old} {new} input is answer given says (inr (same, lost)) =
+  said_behind lines held last old new input is answer given says (inr (same, lost, kept)) =
       subst (λ (r : R). SaysOnceRead remaining contents lines r given old new) is
-      (subst (λ (a : Result Bool Fault). SaysOnceRead remaining contents lines reader a old new) (sym same) (unsaid_failure lines old new))
+      (subst (λ (a : Result Bool Fault). SaysOnceRead remaining contents lines reader a old new) (sym same) (unsaid_failure Bool lines old new))
 
 -- what is said of a set is said of the input that is read as it
 pub said_of_set : {R E T : Type 0} (remaining : R → Option (List ℕ)) (contents : E → Option (List ℕ)) (first last : Counted R) (passphrase : List ℕ)

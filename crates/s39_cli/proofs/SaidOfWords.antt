@@ -1,10 +1,9 @@
 -- What is said on standard error by the whole program.
 use Rattle.std.proofs.Common.{◌≡◌, ◌⊎◌, ◌≤◌, ◌∙◌, ◌++◌, ⊎_elim, ℕ, Bool, true, false, List, [], Option, ap, arith, inl, inr, refl, subst, sym, true≢false}
 use Rattle.clap.specs.Words.{Text, fault_of, takes}
-use Rattle.s39_input.specs.Input.{Input, whole}
+use Rattle.s39_input.specs.Input.{Input}
 use Rattle.s39_command.specs.declared.command.BadValues.{BadValues}
 use Rattle.s39_command.specs.declared.command.Call.{Call}
-use Rattle.s39_command.specs.declared.command.Job.TheVariants as job
 use Rattle.s39_command.specs.declared.command.NoJob.{NoJob}
 use Rattle.s39_command.specs.declared.command.NoJob.TheVariants.{Help, Refused, Values, Memory}
 use Rattle.s39_command.specs.Command.{AnswersWords, GivesCall, shamir_app}
@@ -14,9 +13,6 @@ use Rattle.s39_cli.specs.declared.runner.Destination.{Destination}
 use Rattle.s39_cli.specs.declared.runner.Ended.{Ended}
 use Rattle.s39_cli.specs.declared.runner.Ended.TheVariants.{With, NoMemory}
 use Rattle.s39_cli.specs.declared.runner.Source.{Source}
-use Rattle.s39_cli.specs.declared.runner.Source.TheVariants as read_at
-use Rattle.s39_cli.specs.declared.work.Unready.TheVariants as unready
-use Rattle.s39_cli.specs.declared.work.Work.TheVariants as work
 use Rattle.s39_cli.specs.Ending.{IsTyped, OnEnd}
 use Rattle.s39_cli.specs.Said.{IsSaid, IsSaidAs, IsSaidOfCall, IsSaidOfJob, IsSaidWithoutJob}
 use Rattle.s39_cli.specs.Said.{IsWithin, OnStatus, Says, memory_line, plan_form_line}
@@ -104,13 +100,14 @@ module _ {R E : Type 0} (told : Told) (remaining : R → Option (List ℕ)) (con
           → tells ≡ tells_of_none source destination call
           → Says contents old mid (line_if shown shown_line) → IsSaidOfJob remaining contents call.job attended types tells behind mid new ended
           → IsSaid told remaining contents source destination words reader old new ended
-      said_of_job attended shown types tells secret passphrase behind mid NoMemory untyped takes attended_is shown_is types_is tells_is first (begun, within, says) = (
-        shown,
-        begun,
-        (λ comes. typed_passphrase source call.files.passphrase (sym shown_is ∙ comes)),
-        (λ comes. typed_mnemonics source call.job (sym types_is ∙ within comes)),
-        says_both contents old mid new (line_if shown shown_line) (line_if begun typing_line ++ memory_line) first says,
-      )
+      said_of_job attended shown types tells secret passphrase behind mid NoMemory untyped takes attended_is shown_is types_is tells_is first
+          (begun, within, says) = (
+            shown,
+            begun,
+            (λ comes. typed_passphrase source call.files.passphrase (sym shown_is ∙ comes)),
+            (λ comes. typed_mnemonics source call.job (sym types_is ∙ within comes)),
+            says_both contents old mid new (line_if shown shown_line) (line_if begun typing_line ++ memory_line) first says,
+          )
       said_of_job attended shown types tells secret passphrase behind mid (With status read_to written_to) untyped takes attended_is shown_is types_is tells_is
           first says = by_call call found faultless status (record {
             done = λ none.

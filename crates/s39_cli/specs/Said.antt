@@ -1,5 +1,5 @@
 -- What the program says on standard error.
-use Rattle.std.specs.Prelude.{◌≡◌, ◌≢◌, ◌⊎◌, ◌≤◌, ◌++◌, ◌/◌, ◌^◌, ℕ, Bool, IsFalse, true, false, List, [], Option, Some, Result, Ok, Err, is_some, is_none, bytes_eq, codes}
+use Rattle.std.specs.Prelude.{◌≡◌, ◌≢◌, ◌⊎◌, ◌≤◌, ◌++◌, ◌-◌, ◌/◌, ◌^◌, ℕ, Bool, IsFalse, true, false, List, [], Option, Some, Result, Ok, Err, is_some, is_none, bytes_eq, codes}
 use Rattle.std.specs.Prelude.{if◌then◌else◌, length, min, nat_le, nat_lt, string_bytes}
 use Rattle.std.specs.Borrow.{Bor}
 use Rattle.std.specs.Fmt.{decimal}
@@ -19,7 +19,7 @@ use Rattle.s39_command.specs.Command.{AsksForText, GivesBadValues, GivesCall, ba
 use Rattle.s39_backup.specs.Plan.{PlanForm}
 use Rattle.s39_backup.specs.declared.plan_error.PlanError.TheVariants.{BadPlan}
 use Rattle.s39_words.specs.declared.ShareFields.{ShareFields}
-use Rattle.s39_set.specs.Counting.{most_counted, quorum_count}
+use Rattle.s39_set.specs.Counting.{quorum_count}
 use Rattle.s39_input.specs.declared.fault.Fault.{Fault}
 use Rattle.s39_input.specs.declared.fault.LineRefusal.{LineRefusal}
 use Rattle.s39_input.specs.declared.fault.Stop.{Stop}
@@ -109,10 +109,14 @@ file_line name reason =
 abbrev pub long_line : Text → Text
 long_line name = file_line name (codes "the value has more than 1024 bytes")
 
--- said of a set that is drilled: how many quorums it has, or that there are at least as many as a count tells
+-- the greatest number of quorums that is told
+abbrev pub most_told : ℕ
+most_told = 2 ^ 64 - 1
+
+-- said of a set that is drilled: how many quorums it has, or that it has at least the greatest number that is told
 abbrev pub count_line : ℕ → Text
-count_line count = (if nat_lt count most_counted then codes "shamir: number of quorums: " else codes "shamir: number of quorums: at least ")
-    ++ decimal (min count most_counted) ++ codes "\n"
+count_line count = (if nat_lt count most_told then codes "shamir: number of quorums: " else codes "shamir: number of quorums: at least ")
+    ++ decimal (min count most_told) ++ codes "\n"
 
 -- about how many seconds the iterations of an exponent take
 abbrev pub seconds_of : ℕ → ℕ

@@ -1,6 +1,7 @@
 use Rattle.std.proofs.Common.{subst}
 use Rattle.std.specs.Io.Buffered.{writer_contents}
 use Rattle.s39_cli.specs.Ending.{HandsOn}
+use Rattle.s39_cli.specs.Said.{work_late_lines}
 use Rattle.s39_cli.specs.Work.{IsWorkOutput}
 use Rattle.s39_cli.proofs.Deliveries.{delivers_behind, empty_buffer}
 use Rattle.s39_cli.proofs.SaidByRuns.{said_behind}
@@ -19,5 +20,7 @@ returns-clause-delivers g c =
 
 pub returns-clause-said : goal.returns-clause-said
 returns-clause-said g c =
-    said_behind g.R.Read.remaining g.E.Write.contents c.new-reader.result.device c.args.input c.new-reader.ensures.device
+    said_behind g.R.Read.remaining g.E.Write.contents c.new-reader.result.device
+    (work_late_lines c.args.work.now c.args.notes.is_attended c.args.notes.tells_of_none) (writer_contents g.W.Write.contents c.into_inner.result)
+    (g.W.Write.contents c.handed_on-answer.result.1) c.args.errors.now c.run_told-answer.new.errors c.args.input c.new-reader.ensures.device
     c.run_told-answer.result c.handed_on-answer.result.0 c.run_told-answer.ensures.said c.handed_on-answer.ensures.handed

@@ -2,6 +2,7 @@ use Rattle.std.proofs.Common.{◌≡◌, ◌∙◌, ap, subst, sym}
 use Rattle.std.specs.Io.KnownBytes.{Keeps}
 use Rattle.std.proofs.KnownBytes.{Keeps-refl}
 use Rattle.s39_cli.specs.Ending.{HandsOn}
+use Rattle.s39_cli.specs.Said.{work_late_lines}
 use Rattle.s39_cli.specs.Work.{IsWorkOutput}
 use Rattle.s39_cli.proofs.Deliveries.{delivers_behind}
 use Rattle.s39_cli.proofs.SaidByRuns.{said_behind}
@@ -20,5 +21,7 @@ returns-clause-delivers g c =
 
 pub returns-clause-said : goal.returns-clause-said
 returns-clause-said g c =
-    said_behind g.R.Read.remaining g.E.Write.contents c.new-reader.result.device c.args.input c.new-reader.ensures.device
+    said_behind g.R.Read.remaining g.E.Write.contents c.new-reader.result.device
+    (work_late_lines c.args.work.now c.args.notes.is_attended c.args.notes.tells_of_none) (g.W.Write.contents c.into_inner.result.output)
+    (g.W.Write.contents c.flushed-answer.result.1) c.args.errors.now c.run_told-answer.new.errors c.args.input c.new-reader.ensures.device
     c.run_told-answer.result c.flushed-answer.result.0 c.run_told-answer.ensures.said c.flushed-answer.ensures.handed

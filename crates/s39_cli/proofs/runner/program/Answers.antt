@@ -1,4 +1,4 @@
-use Rattle.std.proofs.Common.{◌≡◌, ℕ, Bool, Bor, List, map, option_map, subst}
+use Rattle.std.proofs.Common.{◌≡◌, ◌∙◌, ℕ, Bool, Bor, List, map, option_map, subst}
 use Rattle.s39_cli.specs.declared.values.NoValue.TheVariants.{TooLong}
 use Rattle.s39_cli.specs.Said.{IsSaidWithoutJob}
 use Rattle.s39_cli.proofs.Ends.{ends_by_job, ends_typed, ends_unread, ends_without_job}
@@ -93,11 +93,11 @@ returns-clause-said g c =
     c.args.errors.now c.by_job.new.errors c.in-Ok.call c.in-Ok.ensures.call
     c.in-Ok.ensures.faultless notes.is_attended notes.types_passphrase notes.types_mnemonics notes.tells_of_none
     (option_map (λ held. held.items) c.in-Ok-read.values.secret) (option_map (λ held. held.items) c.in-Ok-read.values.passphrase) c.read.new.input
-    c.say_if.new.self c.by_job.result (c.is_typed.ensures.untyped c.if-is_typed.false) c.in-Ok-read.ensures.values c.of-notes.ensures.attended c.of-notes.ensures.passphrase c.of-notes.ensures.mnemonics c.of-notes.ensures.none
-    c.say_if.ensures.said c.by_job.ensures.said
+    c.say_if.new.self c.by_job.result (c.is_typed.ensures.untyped c.if-is_typed.false) c.in-Ok-read.ensures.values
+    c.of-notes.ensures.attended c.of-notes.ensures.passphrase c.of-notes.ensures.mnemonics c.of-notes.ensures.none c.say_if.ensures.said c.by_job.ensures.said
 
 pub returns-clause-silent : goal.returns-clause-silent
 returns-clause-silent g c =
     let notes = c.of-notes.result in
     silent_job _ notes.types_passphrase notes.types_mnemonics notes.tells_of_none c.by_job.result c.args.errors.now c.say_if.new.self c.by_job.new.errors
-    c.of-notes.ensures.unattended c.say_if.ensures.silent c.by_job.ensures.silent
+    c.of-notes.ensures.unattended c.say_if.ensures.silent (λ away. c.by_job.ensures.silent (c.of-notes.ensures.attended ∙ away))

@@ -112,32 +112,38 @@ returns-in-Show-clause-said g c =
 
 pub returns-in-Create-clause-said : goal.returns-in-Create-clause-said
 returns-in-Create-clause-said g c =
-    unsaid_work g.R.Read.remaining g.E.Write.contents c.args.input.now.device c.args.self.now (work.Create c.in-Create.creation) c.args.is_attended c.where_done-in-Create.result c.args.errors.now
+    unsaid_work g.R.Read.remaining g.E.Write.contents c.args.input.now.device
+    c.args.self.now (work.Create c.in-Create.creation) c.args.is_attended c.where_done-in-Create.result c.args.errors.now
     c.in-Create.is (λ _. refl)
 
 pub returns-in-Recover-clause-said : goal.returns-in-Recover-clause-said
 returns-in-Recover-clause-said g c =
-    unsaid_work g.R.Read.remaining g.E.Write.contents c.args.input.now.device c.args.self.now (work.Recover c.in-Recover.passphrase c.in-Recover.form c.in-Recover.expected) c.args.is_attended c.where_done-in-Recover.result c.args.errors.now
-    c.in-Recover.is (λ _. refl)
+    unsaid_work g.R.Read.remaining g.E.Write.contents c.args.input.now.device
+    c.args.self.now (work.Recover c.in-Recover.passphrase c.in-Recover.form c.in-Recover.expected) c.args.is_attended
+    c.where_done-in-Recover.result c.args.errors.now c.in-Recover.is (λ _. refl)
 
 pub returns-in-Status-clause-said : goal.returns-in-Status-clause-said
 returns-in-Status-clause-said g c =
-    unsaid_work g.R.Read.remaining g.E.Write.contents c.args.input.now.device c.args.self.now work.Status c.args.is_attended c.with_enough.result c.args.errors.now
+    unsaid_work g.R.Read.remaining g.E.Write.contents c.args.input.now.device
+    c.args.self.now work.Status c.args.is_attended c.with_enough.result c.args.errors.now
     c.in-Status.is (λ _. refl)
 
 pub returns-in-Reissue-clause-said : goal.returns-in-Reissue-clause-said
 returns-in-Reissue-clause-said g c =
-    unsaid_work g.R.Read.remaining g.E.Write.contents c.args.input.now.device c.args.self.now (work.Reissue c.in-Reissue.reissue) c.args.is_attended c.where_done-in-Reissue.result c.args.errors.now
+    unsaid_work g.R.Read.remaining g.E.Write.contents c.args.input.now.device
+    c.args.self.now (work.Reissue c.in-Reissue.reissue) c.args.is_attended c.where_done-in-Reissue.result c.args.errors.now
     c.in-Reissue.is (λ _. refl)
 
 pub returns-in-Repair-clause-said : goal.returns-in-Repair-clause-said
 returns-in-Repair-clause-said g c =
-    unsaid_work g.R.Read.remaining g.E.Write.contents c.args.input.now.device c.args.self.now work.Repair c.args.is_attended c.run_repair.result c.args.errors.now
+    unsaid_work g.R.Read.remaining g.E.Write.contents c.args.input.now.device
+    c.args.self.now work.Repair c.args.is_attended c.run_repair.result c.args.errors.now
     c.in-Repair.is (λ _. refl)
 
 pub returns-in-Resplit-clause-said : goal.returns-in-Resplit-clause-said
 returns-in-Resplit-clause-said g c =
-    unsaid_work g.R.Read.remaining g.E.Write.contents c.args.input.now.device c.args.self.now (work.Resplit c.in-Resplit.resplit) c.args.is_attended c.where_done-in-Resplit.result c.args.errors.now
+    unsaid_work g.R.Read.remaining g.E.Write.contents c.args.input.now.device
+    c.args.self.now (work.Resplit c.in-Resplit.resplit) c.args.is_attended c.where_done-in-Resplit.result c.args.errors.now
     c.in-Resplit.is (λ _. refl)
 
 pub returns-in-Drill-clause-said : goal.returns-in-Drill-clause-said
