@@ -17,7 +17,7 @@ use Rattle.s39_cli.specs.declared.runner.Ended.{Ended}
 use Rattle.s39_cli.specs.declared.runner.Ended.TheVariants.{With, NoMemory}
 use Rattle.s39_cli.specs.declared.runner.Source.{Source}
 use Rattle.s39_cli.specs.declared.runner.Source.TheVariants.{Elsewhere}
-use Rattle.s39_cli.specs.Ending.{AreAllOf, AwaitsRandom, Delivers, DeliversDrawn, DoesDrawn, DoesJob, Ends, EndsAs, EndsAtOnce, IsDoneWith, IsOutcome, IsTyped, OnEnd, TakesCall}
+use Rattle.s39_cli.specs.Ending.{AreAllOf, AwaitsRandom, Delivers, DeliversDrawn, DoesDrawn, Ends, EndsAs, EndsAtOnce, IsDoneWith, IsOutcome, IsTyped, OnEnd, TakesCall}
 use Rattle.s39_cli.specs.Outcome.{HasNoCause, IsReady}
 use Rattle.s39_cli.specs.Values.{Told, text_of}
 use Rattle.s39_cli.proofs.Deliveries.{Delivers-map}

@@ -68,7 +68,7 @@ of_told None P all some = (some.0, tt, some.1)
 of_told (Some bytes) P all some = (bytes, refl, all)
 
 -- where no read failed, it is so of all bytes
-of_all : {R : Type 0} (remaining : R → Option (List ℕ)) (first reader : Counted R) (P : Input → Type 0) → OfInput remaining first reader P
+pub of_all : {R : Type 0} (remaining : R → Option (List ℕ)) (first reader : Counted R) (P : Input → Type 0) → OfInput remaining first reader P
     → reader.failures ≡ first.failures → (bytes : List ℕ) × AreAllOf (remaining first.device) bytes × P (whole bytes)
 of_all remaining first reader P of same =
     of_told (remaining first.device) (λ bytes. P (whole bytes)) (of_known remaining first reader P of same) (elim of.so [

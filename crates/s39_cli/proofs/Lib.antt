@@ -10,6 +10,8 @@ pub mod Outcomes
 pub mod Parts
 pub mod Repairs
 pub mod Said
+pub mod SaidByRuns
+pub mod SaidOfWords
 pub mod SameValues
 pub mod SomeOutcomes
 pub mod Unreadiness

@@ -1,7 +1,7 @@
 -- What is said on standard error, from what the parts say.
-use Rattle.std.proofs.Common.{◌≡◌, ◌⊎◌, ◌≤◌, ◌∙◌, ◌++◌, ⊎_elim, ℕ, All, Bool, Bor, IsFalse, true, false, List, [], Option, Result, Ok, Err, ap, arith, inl, inr, length, refl, subst, sym, true≢false}
+use Rattle.std.proofs.Common.{◌≡◌, ◌⊎◌, ◌≤◌, ◌∙◌, ◌++◌, ⊎_elim, ℕ, All, Bool, Bor, IsFalse, true, false, List, Option, Result, Ok, Err, ap, arith, inl, inr, length, refl, subst, sym, true≢false}
 use Rattle.std.proofs.KnownBytes.{Appends-trans}
-use Rattle.clap.specs.Words.{Text, fault_of, takes}
+use Rattle.clap.specs.Words.{Text}
 use Rattle.s39_kdf.specs.Limits.{IsPrintable}
 use Rattle.s39_backup.specs.declared.plan_error.PlanError.{PlanError}
 use Rattle.s39_backup.specs.declared.plan_error.PlanError.TheVariants.{BadPlan, PlanGroups, PlanMembers, OneOfMany}
@@ -13,15 +13,9 @@ use Rattle.s39_input.specs.Accepted.{IsCheckedSet}
 use Rattle.s39_input.specs.Input.{Input, whole}
 use Rattle.s39_input.specs.Steps.{Then, gives, refuses, nothing_for}
 use Rattle.s39_input.proofs.Sets.Checked.{printable_of_checked}
-use Rattle.s39_command.specs.declared.command.BadValues.{BadValues}
-use Rattle.s39_command.specs.declared.command.Call.{Call}
 use Rattle.s39_command.specs.declared.command.Job.{Job}
-use Rattle.s39_command.specs.declared.command.NoJob.{NoJob}
-use Rattle.s39_command.specs.declared.command.NoJob.TheVariants.{Help, Refused, Values, Memory}
-use Rattle.s39_command.specs.Command.{AnswersWords, GivesCall, shamir_app}
-use Rattle.s39_command.proofs.Jobs.{asks_none}
+use Rattle.s39_command.specs.declared.command.Job.TheVariants as job
 use Rattle.s39_cli.specs.declared.messages.Messages.{Messages}
-use Rattle.s39_cli.specs.declared.runner.Destination.{Destination}
 use Rattle.s39_cli.specs.declared.runner.Ended.{Ended}
 use Rattle.s39_cli.specs.declared.runner.Ended.TheVariants.{With, NoMemory}
 use Rattle.s39_cli.specs.declared.runner.Source.{Source}
@@ -32,13 +26,14 @@ use Rattle.s39_cli.specs.declared.work.Work.{Work}
 use Rattle.s39_cli.specs.declared.work.Work.TheVariants as work
 use Rattle.s39_reading.specs.Recover.{WritesSecret}
 use Rattle.s39_drilling.specs.Drill.{WritesDrillOf}
-use Rattle.s39_cli.specs.Ending.{Delivers, HasStatus, IsTyped, OnEnd}
+use Rattle.s39_cli.specs.Ending.{Delivers, HasStatus}
 use Rattle.s39_cli.specs.Outcome.{HasBadPlan, IsReady, judged, status_of, status_of_refusal, where_done, without_mismatches}
-use Rattle.s39_cli.specs.Said.{HasFormlessPlan, IsSaid, IsSaidAs, IsSaidBy, IsSaidOfCall, IsSaidOfJob, IsSaidUnbegun, IsSaidWithoutJob, IsSilentAtNone}
-use Rattle.s39_cli.specs.Said.{IsWithin, OnStatus, Says, SaysFault, SaysMessage, SaysOfNone, longest_message, memory_line, plan_form_line}
+use Rattle.s39_cli.specs.Said.{HasFormlessPlan, IsSaidBy, IsSaidOfJob, IsSaidUnbegun, IsSilentAtNone}
+use Rattle.s39_cli.specs.Said.{IsWithin, OnStatus, Says, SaysBeside, SaysFault, SaysMessage, SaysOnceRead, longest_message, memory_line}
 use Rattle.s39_cli.specs.Unready.{IsUnready}
-use Rattle.s39_cli.specs.Said.{IsNamedIn, bare_line, is_attended, is_terminal, line_if, long_line, secret_line, shown_line, tells_of_none, typed_line, types_mnemonics, types_passphrase, typing_line}
-use Rattle.s39_cli.specs.Work.{HasBadPassphrase, IsWorkOutput}
+use Rattle.s39_cli.specs.Said.{bare_line, input_lines, late_lines, is_terminal, line_if, types_mnemonics, types_passphrase, typing_line, work_input_lines, work_late_lines}
+use Rattle.s39_cli.specs.Work.{HasBadPassphrase, IsWorkOf, IsWorkOutput}
+use Rattle.s39_cli.proofs.Works.{ready_of_work}
 use Rattle.s39_cli.proofs.Formless.{formed_by_cursor, formed_by_fingerprint, formed_by_names, formed_if_other, formed_if_ready, formless_if_bad}
 
 -- ---- exit statuses
@@ -89,16 +84,24 @@ work_sound (work.Resplit resplit) input text answer output none bad = bad
 
 -- ---- the lines
 
-bare_short : (tells : Bool) → length (line_if tells bare_line) ≤ longest_message
-bare_short true = let is : length bare_line ≡ 76 = refl in omega (arith, is)
-bare_short false = omega arith
+-- what is said of the input of a work is what is said of that of its job
+lines_alike : (j : Job) (secret passphrase : Text) (w : Work) → IsWorkOf j secret passphrase w → (input : Input)
+    → work_input_lines w input ≡ input_lines j input
+lines_alike job.Show s p w is input = ap (λ (x : Work). work_input_lines x input) is
+lines_alike (job.Create plan e x) s p w is input = ap (λ (x : Work). work_input_lines x input) is.1
+lines_alike (job.Recover form expected) s p w is input = ap (λ (x : Work). work_input_lines x input) is.2
+lines_alike (job.Drill after limit form expected) s p w is input = ap (λ (x : Work). work_input_lines x input) is.1
+lines_alike job.Status s p w is input = ap (λ (x : Work). work_input_lines x input) is
+lines_alike (job.Reissue plan names) s p w is input = ap (λ (x : Work). work_input_lines x input) is.1
+lines_alike job.Repair s p w is input = ap (λ (x : Work). work_input_lines x input) is
+lines_alike (job.Resplit plan file) s p w is input = ap (λ (x : Work). work_input_lines x input) is.1
 
 -- only at a terminal something is typed
-typed_passphrase : (from : Source) (file : Option (Bor Text)) → types_passphrase from file ≡ true → is_terminal from ≡ true
+pub typed_passphrase : (from : Source) (file : Option (Bor Text)) → types_passphrase from file ≡ true → is_terminal from ≡ true
 typed_passphrase read_at.Terminal file types = refl
 typed_passphrase read_at.Elsewhere file types = types
 
-typed_mnemonics : (from : Source) (j : Job) → types_mnemonics from j ≡ true → is_terminal from ≡ true
+pub typed_mnemonics : (from : Source) (j : Job) → types_mnemonics from j ≡ true → is_terminal from ≡ true
 typed_mnemonics read_at.Terminal j types = refl
 typed_mnemonics read_at.Elsewhere j types = types
 
@@ -114,252 +117,160 @@ module _ {E : Type 0} (contents : E → Option (List ℕ)) where
   -- ---- a job
 
   -- an answer with exit status 0 is no fault
-  says_well : (answer : Result Bool Fault) (tells : Bool) (old mid new : Messages E) → status_of answer ≡ 0 → SaysOfNone contents tells answer old mid
-      → SaysFault contents answer mid new → Says contents old new (line_if tells bare_line)
-  says_well (Ok is_well) tells old mid new none says same = subst (λ (m : Messages E). Says contents old m (line_if tells bare_line)) (sym same) says
-  says_well (Err fault) tells old mid new none says fails = absurd (refusal_some fault.refusal none)
+  says_well : (answer : Result Bool Fault) (text : Text) (old mid new : Messages E) → status_of answer ≡ 0 → SaysBeside contents text answer old mid
+      → SaysFault contents answer mid new → Says contents old new text
+  says_well (Ok is_well) text old mid new none says same = subst (λ (m : Messages E). Says contents old m text) (sym same) says
+  says_well (Err fault) text old mid new none says fails = absurd (refusal_some fault.refusal none)
 
-  -- what is said of an answer with exit status 1 is short
-  says_shortly : (answer : Result Bool Fault) (tells : Bool) (old mid new : Messages E) → status_of answer ≡ 1 → SaysOfNone contents tells answer old mid
-      → SaysFault contents answer mid new → SaysMessage contents old new
-  says_shortly (Ok is_well) tells old mid new one says same = (
-    line_if tells bare_line,
-    bare_short tells,
-    subst (λ (m : Messages E). Says contents old m (line_if tells bare_line)) (sym same) says,
-  )
-  says_shortly (Err fault) tells old mid new one says fails = subst (λ (m : Messages E). SaysMessage contents m new) (says one) fails
+  -- what is said of an answer with exit status 1 is a message, or what is said beside it
+  says_one : (answer : Result Bool Fault) (text : Text) (old mid new : Messages E) → status_of answer ≡ 1 → SaysBeside contents text answer old mid
+      → SaysFault contents answer mid new
+      → (said : Text) × ((length said ≤ longest_message) ⊎ (said ≡ text)) × Says contents old new said
+  says_one (Ok is_well) text old mid new one says same = (text, inr refl, subst (λ (m : Messages E). Says contents old m text) (sym same) says)
+  says_one (Err fault) text old mid new one says fails =
+      let (said, short, is) = subst (λ (m : Messages E). SaysMessage contents m new) (says one) fails in (said, inl short, is)
 
-  -- a run that gave this answer
-  pub said_by_run : (j : Job) (secret : Text) (attended types tells asks : Bool) (w : Work) (answer : Result Bool Fault) (old mid late new : Messages E)
-      → IsReady j secret → (asks ≡ types) ⊎ ((asks ≡ false) × HasBadPassphrase w)
-      → (status_of answer ≡ 0 → (input : Input) × (text : List ℕ) × HasStatus (IsWorkOutput w) input text (status_of answer))
-      → Says contents old mid (line_if asks typing_line) → SaysOfNone contents tells answer mid late → SaysFault contents answer late new
-      → IsSaidBy contents j attended types tells old new (status_of answer)
-  said_by_run j secret attended types tells asks w answer old mid late new ready asked output first second third = record {
-    done = λ none. says_both old mid new (line_if types typing_line) (line_if tells bare_line)
-        (subst (λ (b : Bool). Says contents old mid (line_if b typing_line)) (asks_all asked none) first)
-        (says_well answer tells mid late new none second third);
-    refused = λ one formed.
-        let short = says_shortly answer tells mid late new one second third in
-        (asks, short.0, within asked, short.1, (λ comes. (secret, ready)), says_both old mid new (line_if asks typing_line) short.0 first short.2);
-    formless = λ one formless. absurd (formed_if_ready j secret ready formless);
-    wrong = λ two. absurd (never_two answer two);
-  }
-    where
-      within : (asks ≡ types) ⊎ ((asks ≡ false) × HasBadPassphrase w) → IsWithin asks types
-      within (inl same) comes = sym same ∙ comes
-      within (inr bad) comes = absurd (true≢false (sym comes ∙ bad.0))
-
-      asks_all : (asks ≡ types) ⊎ ((asks ≡ false) × HasBadPassphrase w) → status_of answer ≡ 0 → asks ≡ types
-      asks_all (inl same) none = same
-      asks_all (inr bad) none =
-          let is = output none in
-          absurd (work_sound w is.0 is.1 is.2.0 is.2.1 (sym is.2.2 ∙ none) bad.1)
-
-  -- a run whose devices are known
-  pub said_by_work : {R W : Type 0} (remaining : R → Option (List ℕ)) (held : W → Option (List ℕ)) (j : Job) (secret : Text)
-      (attended types tells asks : Bool) (w : Work)
-      (answer : Result Bool Fault) (reader read_to : R) (writer written_to : W) (ended : Ended R W) (old mid late new : Messages E)
-      → IsReady j secret → (asks ≡ types) ⊎ ((asks ≡ false) × HasBadPassphrase w)
-      → Delivers remaining held (HasStatus (IsWorkOutput w)) reader writer (status_of answer) read_to written_to
-      → Says contents old mid (line_if asks typing_line) → SaysOfNone contents tells answer mid late → SaysFault contents answer late new
-      → ended ≡ With (status_of answer) read_to written_to → IsSaidOfJob contents j attended types tells old new ended
-  said_by_work remaining held j secret attended types tells asks w answer reader read_to writer written_to ended old mid late new ready asked delivers
-      first second third same = subst (IsSaidOfJob contents j attended types tells old new) (sym same)
-      (said_by_run j secret attended types tells asks w answer old mid late new ready asked output first second third)
-    where
-      output : status_of answer ≡ 0 → (input : Input) × (text : List ℕ) × HasStatus (IsWorkOutput w) input text (status_of answer)
-      output none =
-          let done = delivers.done (λ three. omega (arith, none, three)) in
-          (whole done.0, done.2.0, done.2.1)
-
-  -- no memory is left after the first lines
-  pub said_for_memory : {R W : Type 0} (j : Job) (attended types tells asks : Bool) (w : Work) (ended : Ended R W) (old mid new : Messages E)
-      → (asks ≡ types) ⊎ ((asks ≡ false) × HasBadPassphrase w)
-      → Says contents old mid (line_if asks typing_line) → Says contents mid new memory_line → ended ≡ NoMemory
-      → IsSaidOfJob contents j attended types tells old new ended
-  said_for_memory j attended types tells asks w ended old mid new asked first second same =
-      subst (IsSaidOfJob contents j attended types tells old new) (sym same)
-      (asks, within asked, says_both old mid new (line_if asks typing_line) memory_line first second)
-    where
-      within : (asks ≡ types) ⊎ ((asks ≡ false) × HasBadPassphrase w) → IsWithin asks types
-      within (inl yes_is) comes = sym yes_is ∙ comes
-      within (inr bad) comes = absurd (true≢false (sym comes ∙ bad.0))
-
-  -- a job that isn't begun
-  refused_unbegun : {R W : Type 0} (j : Job) (attended types tells : Bool) (ended : Ended R W) (old new : Messages E) → (HasFormlessPlan j → ⊥)
-      → OnStatus ended (λ status. (status ≡ 1) × SaysMessage contents old new) → IsSaidOfJob contents j attended types tells old new ended
-  refused_unbegun j attended types tells NoMemory old new formed says = absurd says
-  refused_unbegun j attended types tells (With status read_to written_to) old new formed (is, (text, short, says)) = record {
-    done = λ none. absurd (omega (arith, none, is));
-    refused = λ one _.
-        (false, text, (λ comes. absurd (true≢false (sym comes))), short, (λ comes. absurd (true≢false (sym comes))), says);
-    formless = λ one formless. absurd (formed formless);
-    wrong = λ two. absurd (omega (arith, two, is));
-  }
-
-  -- a job whose text of a plan gives none
-  pub said_of_plan : {R W : Type 0} (j : Job) (secret : Text) (attended types tells : Bool) (error : PlanError) (ended : Ended R W) (old new : Messages E)
-      → HasBadPlan j secret error → IsSaidUnbegun contents attended (unready.Plan error) old new ended
-      → IsSaidOfJob contents j attended types tells old new ended
-  said_of_plan j secret attended types tells error NoMemory old new bad says = absurd says
-  said_of_plan j secret attended types tells BadPlan (With status read_to written_to) old new bad (is, formless, other) = record {
-    done = λ none. absurd (omega (arith, none, is));
-    refused = λ one formed. absurd (formed (formless_if_bad j secret bad));
-    formless = λ one _. formless refl;
-    wrong = λ two. absurd (omega (arith, two, is));
-  }
-  said_of_plan j secret attended types tells PlanGroups (With status read_to written_to) old new bad (is, formless, other) =
-      refused_unbegun j attended types tells (With status read_to written_to) old new
-      (formed_if_other j secret PlanGroups bad (λ same. cc same)) (is, other (λ same. cc same))
-  said_of_plan j secret attended types tells (PlanMembers group) (With status read_to written_to) old new bad (is, formless, other) =
-      refused_unbegun j attended types tells (With status read_to written_to) old new
-      (formed_if_other j secret (PlanMembers group) bad (λ same. cc same)) (is, other (λ same. cc same))
-  said_of_plan j secret attended types tells (OneOfMany group) (With status read_to written_to) old new bad (is, formless, other) =
-      refused_unbegun j attended types tells (With status read_to written_to) old new
-      (formed_if_other j secret (OneOfMany group) bad (λ same. cc same)) (is, other (λ same. cc same))
-
-  pub said_unbegun : {R W : Type 0} (j : Job) (secret : Text) (attended types tells : Bool) (u : Unready) (ended : Ended R W) (old new : Messages E)
-      → IsUnready j secret u → IsSaidUnbegun contents attended u old new ended → IsSaidOfJob contents j attended types tells old new ended
-  said_unbegun j secret attended types tells unready.Memory ended old new bad (none, says) =
-      subst (IsSaidOfJob contents j attended types tells old new) (sym none) (false, (λ comes. absurd (true≢false (sym comes))), says)
-  said_unbegun j secret attended types tells unready.Secret NoMemory old new bad says = absurd says
-  said_unbegun j secret attended types tells unready.Secret (With status read_to written_to) old new bad (is, says) = record {
-    done = λ none. absurd (omega (arith, none, is));
-    refused = λ one. absurd (omega (arith, one, is));
-    formless = λ one. absurd (omega (arith, one, is));
-    wrong = λ _. says;
-  }
-  said_unbegun j secret attended types tells (unready.Plan error) ended old new bad says =
-      said_of_plan j secret attended types tells error ended old new bad says
-  said_unbegun j secret attended types tells (unready.Cursor cursor) ended old new bad says =
-      refused_unbegun j attended types tells ended old new (formed_by_cursor j bad) says
-  said_unbegun j secret attended types tells (unready.Fingerprint fingerprint) ended old new bad says =
-      refused_unbegun j attended types tells ended old new (formed_by_fingerprint j bad) says
-  said_unbegun j secret attended types tells (unready.Names names) ended old new bad says =
-      refused_unbegun j attended types tells ended old new (formed_by_names j bad) says
-
-  -- ---- the program
-
-  by_call : (source : Source) (destination : Destination) (words : List Text) (old new : Messages E) (call : Call) → GivesCall words call
-      → fault_of shamir_app words ≡ [] → (status : ℕ) → IsSaidOfCall contents source destination call old new status
-      → IsSaidAs contents source destination words old new status
-  by_call source destination words old new call found faultless status says = record {
-    asked = λ asks. absurd (asks_none words faultless asks);
-    taken = λ _. inr (call, found, says);
-  }
-
-  module _ {R W : Type 0} (source : Source) (destination : Destination) (words : List Text) (old new : Messages E) where
-    -- for want of memory, before anything else is said
-    only_memory : (ended : Ended R W) → ended ≡ NoMemory → Says contents old new memory_line → IsSaid contents source destination words old new ended
-    only_memory ended none says =
-        let never : (may : Bool) → IsWithin false may = λ may comes. absurd (true≢false (sym comes)) in
-        subst (IsSaid contents source destination words old new) (sym none) (false, false, never (is_terminal source), never (is_terminal source), says)
-
-    -- words that give no job
-    pub said_without_job : (no_job : NoJob) (ended : Ended R W) → AnswersWords no_job words
-        → (takes shamir_app words ≡ true → (no_job ≡ Memory) ⊎ ((bad : BadValues) × (no_job ≡ Values bad)))
-        → IsSaidWithoutJob contents (is_attended source destination) no_job old new ended → IsSaid contents source destination words old new ended
-    said_without_job Memory ended answers wanting (none, says) = only_memory ended none says
-    said_without_job (Help text) NoMemory answers wanting says = absurd says
-    said_without_job (Refused text) NoMemory answers wanting says = absurd says
-    said_without_job (Values bad) NoMemory answers wanting says = absurd says
-    said_without_job (Help text) (With status read_to written_to) answers wanting says = record {
-      asked = λ _ none. says none;
-      taken = λ taken. ⊎_elim (λ memory. cc) (λ values. cc) (wanting taken);
+  module _ {R : Type 0} (remaining : R → Option (List ℕ)) where
+    -- a run that gave this answer
+    pub said_by_run : (j : Job) (secret passphrase : Text) (attended types tells asks : Bool) (w : Work) (answer : Result Bool Fault) (reader : R)
+        (old mid late new : Messages E)
+        → IsWorkOf j secret passphrase w → (asks ≡ types) ⊎ ((asks ≡ false) × HasBadPassphrase w)
+        → (status_of answer ≡ 0 → (input : Input) × (text : List ℕ) × HasStatus (IsWorkOutput w) input text (status_of answer))
+        → Says contents old mid (line_if asks typing_line)
+        → SaysOnceRead remaining contents (work_late_lines w attended tells) reader answer mid late → SaysFault contents answer late new
+        → IsSaidBy remaining contents j attended types tells reader old new (status_of answer)
+    said_by_run j secret passphrase attended types tells asks w answer reader old mid late new is asked output first (input, all, beside) third = record {
+      done = λ none. (
+        input,
+        all,
+        says_both old mid new (line_if types typing_line) lines
+            (subst (λ (b : Bool). Says contents old mid (line_if b typing_line)) (asks_all asked none) first)
+            (says_well answer lines mid late new none said third),
+      );
+      refused = λ one formed.
+          let short = says_one answer lines mid late new one said third in (
+            asks,
+            short.0,
+            within asked,
+            ⊎_elim (λ few. inl few) (λ same. inr (input, all, same)) short.1,
+            (λ comes. (secret, ready)),
+            says_both old mid new (line_if asks typing_line) short.0 first short.2,
+          );
+      formless = λ one formless. absurd (formed_if_ready j secret ready formless);
+      wrong = λ two. absurd (never_two answer two);
     }
-    said_without_job (Refused text) (With status read_to written_to) answers wanting says = record {
-      asked = λ asks. absurd (answers.1 asks);
-      taken = λ taken. absurd (true≢false (sym taken ∙ answers.0));
-    }
-    said_without_job (Values bad) (With status read_to written_to) answers wanting says = record {
-      asked = λ asks. absurd (answers.1 asks);
-      taken = λ _. inl (bad, answers.2, says.1);
+      where
+        ready : IsReady j secret
+        ready = ready_of_work j secret passphrase w is
+
+        lines : Text
+        lines = late_lines j attended tells input
+
+        said : SaysBeside contents lines answer mid late
+        said = subst (λ (text : Text). SaysBeside contents (line_if attended text ++ line_if tells bare_line) answer mid late)
+            (lines_alike j secret passphrase w is input) beside
+
+        within : (asks ≡ types) ⊎ ((asks ≡ false) × HasBadPassphrase w) → IsWithin asks types
+        within (inl same) comes = sym same ∙ comes
+        within (inr bad) comes = absurd (true≢false (sym comes ∙ bad.0))
+
+        asks_all : (asks ≡ types) ⊎ ((asks ≡ false) × HasBadPassphrase w) → status_of answer ≡ 0 → asks ≡ types
+        asks_all (inl same) none = same
+        asks_all (inr bad) none =
+            let is = output none in
+            absurd (work_sound w is.0 is.1 is.2.0 is.2.1 (sym is.2.2 ∙ none) bad.1)
+
+    -- a run whose devices are known
+    pub said_by_work : {W : Type 0} (held : W → Option (List ℕ)) (j : Job) (secret passphrase : Text)
+        (attended types tells asks : Bool) (w : Work)
+        (answer : Result Bool Fault) (reader read_to : R) (writer written_to : W) (ended : Ended R W) (old mid late new : Messages E)
+        → IsWorkOf j secret passphrase w → (asks ≡ types) ⊎ ((asks ≡ false) × HasBadPassphrase w)
+        → Delivers remaining held (HasStatus (IsWorkOutput w)) reader writer (status_of answer) read_to written_to
+        → Says contents old mid (line_if asks typing_line)
+        → SaysOnceRead remaining contents (work_late_lines w attended tells) reader answer mid late → SaysFault contents answer late new
+        → ended ≡ With (status_of answer) read_to written_to → IsSaidOfJob remaining contents j attended types tells reader old new ended
+    said_by_work held j secret passphrase attended types tells asks w answer reader read_to writer written_to ended old mid late new is asked delivers
+        first second third same = subst (IsSaidOfJob remaining contents j attended types tells reader old new) (sym same)
+        (said_by_run j secret passphrase attended types tells asks w answer reader old mid late new is asked output first second third)
+      where
+        output : status_of answer ≡ 0 → (input : Input) × (text : List ℕ) × HasStatus (IsWorkOutput w) input text (status_of answer)
+        output none =
+            let done = delivers.done (λ three. omega (arith, none, three)) in
+            (whole done.0, done.2.0, done.2.1)
+
+    -- no memory is left after the first lines
+    pub said_for_memory : {W : Type 0} (j : Job) (attended types tells asks : Bool) (w : Work) (reader : R) (ended : Ended R W) (old mid new : Messages E)
+        → (asks ≡ types) ⊎ ((asks ≡ false) × HasBadPassphrase w)
+        → Says contents old mid (line_if asks typing_line) → Says contents mid new memory_line → ended ≡ NoMemory
+        → IsSaidOfJob remaining contents j attended types tells reader old new ended
+    said_for_memory j attended types tells asks w reader ended old mid new asked first second same =
+        subst (IsSaidOfJob remaining contents j attended types tells reader old new) (sym same)
+        (asks, within asked, says_both old mid new (line_if asks typing_line) memory_line first second)
+      where
+        within : (asks ≡ types) ⊎ ((asks ≡ false) × HasBadPassphrase w) → IsWithin asks types
+        within (inl yes_is) comes = sym yes_is ∙ comes
+        within (inr bad) comes = absurd (true≢false (sym comes ∙ bad.0))
+
+    -- a job that isn't begun
+    refused_unbegun : {W : Type 0} (j : Job) (attended types tells : Bool) (reader : R) (ended : Ended R W) (old new : Messages E)
+        → (HasFormlessPlan j → ⊥) → OnStatus ended (λ status. (status ≡ 1) × SaysMessage contents old new)
+        → IsSaidOfJob remaining contents j attended types tells reader old new ended
+    refused_unbegun j attended types tells reader NoMemory old new formed says = absurd says
+    refused_unbegun j attended types tells reader (With status read_to written_to) old new formed (is, (text, short, says)) = record {
+      done = λ none. absurd (omega (arith, none, is));
+      refused = λ one _.
+          (false, text, (λ comes. absurd (true≢false (sym comes))), inl short, (λ comes. absurd (true≢false (sym comes))), says);
+      formless = λ one formless. absurd (formed formless);
+      wrong = λ two. absurd (omega (arith, two, is));
     }
 
-    module _ (call : Call) (found : GivesCall words call) (faultless : fault_of shamir_app words ≡ []) where
-      pub said_typed : (ended : Ended R W) (reader : R) (writer : W) → IsTyped source call.job → ended ≡ With 2 reader writer
-          → Says contents old new typed_line → IsSaid contents source destination words old new ended
-      said_typed ended reader writer typed same says =
-          subst (IsSaid contents source destination words old new) (sym same) (by_call source destination words old new call found faultless 2 (record {
-            done = λ none. absurd (omega (arith, none));
-            typed = λ _. says;
-            refused = λ one. absurd (omega (arith, one));
-            formless = λ one. absurd (omega (arith, one));
-            wrong = λ _. inl typed;
-          }))
+    -- a job whose text of a plan gives none
+    pub said_of_plan : {W : Type 0} (j : Job) (secret : Text) (attended types tells : Bool) (error : PlanError) (reader : R) (ended : Ended R W)
+        (old new : Messages E) → HasBadPlan j secret error → IsSaidUnbegun contents attended (unready.Plan error) old new ended
+        → IsSaidOfJob remaining contents j attended types tells reader old new ended
+    said_of_plan j secret attended types tells error reader NoMemory old new bad says = absurd says
+    said_of_plan j secret attended types tells BadPlan reader (With status read_to written_to) old new bad (is, formless, other) = record {
+      done = λ none. absurd (omega (arith, none, is));
+      refused = λ one formed. absurd (formed (formless_if_bad j secret bad));
+      formless = λ one _. formless refl;
+      wrong = λ two. absurd (omega (arith, two, is));
+    }
+    said_of_plan j secret attended types tells PlanGroups reader (With status read_to written_to) old new bad (is, formless, other) =
+        refused_unbegun j attended types tells reader (With status read_to written_to) old new
+        (formed_if_other j secret PlanGroups bad (λ same. cc same)) (is, other (λ same. cc same))
+    said_of_plan j secret attended types tells (PlanMembers group) reader (With status read_to written_to) old new bad (is, formless, other) =
+        refused_unbegun j attended types tells reader (With status read_to written_to) old new
+        (formed_if_other j secret (PlanMembers group) bad (λ same. cc same)) (is, other (λ same. cc same))
+    said_of_plan j secret attended types tells (OneOfMany group) reader (With status read_to written_to) old new bad (is, formless, other) =
+        refused_unbegun j attended types tells reader (With status read_to written_to) old new
+        (formed_if_other j secret (OneOfMany group) bad (λ same. cc same)) (is, other (λ same. cc same))
 
-      pub said_unread : (shown : Bool) (mid : Messages E) (name : Text) (ended : Ended R W) → (IsTyped source call.job → ⊥)
-          → OnStatus ended (λ status. 2 ≤ status) → shown ≡ types_passphrase source call.files.passphrase → IsNamedIn call.files name
-          → Says contents old mid (line_if shown shown_line) → OnEnd ended (λ status read_to written_to. status ≡ 2 → Says contents mid new (long_line name))
-          → IsSaid contents source destination words old new ended
-      said_unread shown mid name NoMemory untyped other shown_is named first says = absurd other
-      said_unread shown mid name (With status read_to written_to) untyped other shown_is named first says =
-          by_call source destination words old new call found faultless status (record {
-            done = λ none. absurd (omega (arith, none, other));
-            typed = λ typed. absurd (untyped typed);
-            refused = λ one. absurd (omega (arith, one, other));
-            formless = λ one. absurd (omega (arith, one, other));
-            wrong = λ two. inr (
-              long_line name,
-              inr (name, named, refl),
-              subst (λ (b : Bool). Says contents old new (line_if b shown_line ++ long_line name)) shown_is
-                  (says_both old mid new (line_if shown shown_line) (long_line name) first (says two)),
-            );
-          })
-
-      pub said_of_job : (attended shown types tells : Bool) (mid : Messages E) (ended : Ended R W) → (IsTyped source call.job → ⊥)
-          → attended ≡ is_attended source destination → shown ≡ types_passphrase source call.files.passphrase → types ≡ types_mnemonics source call.job
-          → tells ≡ tells_of_none source destination call
-          → Says contents old mid (line_if shown shown_line) → IsSaidOfJob contents call.job attended types tells mid new ended
-          → IsSaid contents source destination words old new ended
-      said_of_job attended shown types tells mid NoMemory untyped attended_is shown_is types_is tells_is first (begun, within, says) = (
-        shown,
-        begun,
-        (λ comes. typed_passphrase source call.files.passphrase (sym shown_is ∙ comes)),
-        (λ comes. typed_mnemonics source call.job (sym types_is ∙ within comes)),
-        says_both old mid new (line_if shown shown_line) (line_if begun typing_line ++ memory_line) first says,
-      )
-      said_of_job attended shown types tells mid (With status read_to written_to) untyped attended_is shown_is types_is tells_is first says =
-          by_call source destination words old new call found faultless status (record {
-            done = λ none. subst (λ (b : Bool). Says contents old new (line_if b shown_line
-                ++ (line_if (types_mnemonics source call.job) typing_line ++ line_if (tells_of_none source destination call) bare_line))) shown_is
-                (subst (λ (b : Bool). Says contents old new (line_if shown shown_line
-                ++ (line_if b typing_line ++ line_if (tells_of_none source destination call) bare_line))) types_is
-                (subst (λ (b : Bool). Says contents old new (line_if shown shown_line ++ (line_if types typing_line ++ line_if b bare_line))) tells_is
-                (says_both old mid new (line_if shown shown_line) (line_if types typing_line ++ line_if tells bare_line) first (says.done none))));
-            typed = λ typed. absurd (untyped typed);
-            refused = λ one formed.
-                let r = says.refused one formed in (
-                  r.0,
-                  r.1,
-                  (λ comes. sym types_is ∙ r.2 comes),
-                  r.3,
-                  r.4,
-                  subst (λ (b : Bool). Says contents old new (line_if b shown_line ++ (line_if r.0 typing_line ++ r.1))) shown_is
-                      (says_both old mid new (line_if shown shown_line) (line_if r.0 typing_line ++ r.1) first r.5),
-                );
-            formless = λ one formless.
-                let r = says.formless one formless in (
-                  r.0,
-                  r.1,
-                  subst (λ (b : Bool). Says contents old new (line_if b shown_line ++ (r.0 ++ line_if (is_attended source destination) plan_form_line)))
-                      shown_is (subst (λ (b : Bool). Says contents old new (line_if shown shown_line ++ (r.0 ++ line_if b plan_form_line))) attended_is
-                      (says_both old mid new (line_if shown shown_line) (r.0 ++ line_if attended plan_form_line) first r.2)),
-                );
-            wrong = λ two. inr (
-              secret_line,
-              inl refl,
-              subst (λ (b : Bool). Says contents old new (line_if b shown_line ++ secret_line)) shown_is
-                  (says_both old mid new (line_if shown shown_line) secret_line first (says.wrong two)),
-            );
-          })
+    pub said_unbegun : {W : Type 0} (j : Job) (secret : Text) (attended types tells : Bool) (u : Unready) (reader : R) (ended : Ended R W)
+        (old new : Messages E) → IsUnready j secret u → IsSaidUnbegun contents attended u old new ended
+        → IsSaidOfJob remaining contents j attended types tells reader old new ended
+    said_unbegun j secret attended types tells unready.Memory reader ended old new bad (none, says) =
+        subst (IsSaidOfJob remaining contents j attended types tells reader old new) (sym none) (false, (λ comes. absurd (true≢false (sym comes))), says)
+    said_unbegun j secret attended types tells unready.Secret reader NoMemory old new bad says = absurd says
+    said_unbegun j secret attended types tells unready.Secret reader (With status read_to written_to) old new bad (is, says) = record {
+      done = λ none. absurd (omega (arith, none, is));
+      refused = λ one. absurd (omega (arith, one, is));
+      formless = λ one. absurd (omega (arith, one, is));
+      wrong = λ _. says;
+    }
+    said_unbegun j secret attended types tells (unready.Plan error) reader ended old new bad says =
+        said_of_plan j secret attended types tells error reader ended old new bad says
+    said_unbegun j secret attended types tells (unready.Cursor cursor) reader ended old new bad says =
+        refused_unbegun j attended types tells reader ended old new (formed_by_cursor j bad) says
+    said_unbegun j secret attended types tells (unready.Fingerprint fingerprint) reader ended old new bad says =
+        refused_unbegun j attended types tells reader ended old new (formed_by_fingerprint j bad) says
+    said_unbegun j secret attended types tells (unready.Names names) reader ended old new bad says =
+        refused_unbegun j attended types tells reader ended old new (formed_by_names j bad) says
 
 -- ---- nothing is said
 
 pub silent_job : {R W M : Type 0} (attended passphrase mnemonics none : Bool) (ended : Ended R W) (old said new : M)
     → (IsFalse attended → IsFalse passphrase × IsFalse mnemonics × IsFalse none) → (IsFalse passphrase → said ≡ old)
-    → (IsFalse mnemonics → IsSilentAtNone none ended said new) → IsSilentAtNone attended ended old new
+    → (IsFalse attended → IsFalse mnemonics → IsSilentAtNone none ended said new) → IsSilentAtNone attended ended old new
 silent_job attended passphrase mnemonics none (With status read_to written_to) old said new nobody first job = λ done away.
-    let all = nobody away in job all.1 done all.2 ∙ first all.0
+    let all = nobody away in job away all.1 done all.2 ∙ first all.0
 silent_job attended passphrase mnemonics none NoMemory old said new nobody first job = tt

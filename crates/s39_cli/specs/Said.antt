@@ -1,7 +1,8 @@
 -- What the program says on standard error.
-use Rattle.std.specs.Prelude.{◌≡◌, ◌≢◌, ◌⊎◌, ◌≤◌, ◌++◌, ℕ, Bool, IsFalse, true, false, List, [], Option, Some, Result, Ok, Err, is_some, is_none, bytes_eq, codes}
-use Rattle.std.specs.Prelude.{if◌then◌else◌, length, string_bytes}
+use Rattle.std.specs.Prelude.{◌≡◌, ◌≢◌, ◌⊎◌, ◌≤◌, ◌++◌, ◌-◌, ◌/◌, ◌^◌, ℕ, Bool, IsFalse, true, false, List, [], Option, Some, Result, Ok, Err, is_some, is_none, bytes_eq, codes}
+use Rattle.std.specs.Prelude.{if◌then◌else◌, length, min, nat_le, nat_lt, string_bytes}
 use Rattle.std.specs.Borrow.{Bor}
+use Rattle.std.specs.Fmt.{decimal}
 use Rattle.std.specs.Fmt.Cut.{cut_to}
 use Rattle.std.specs.Io.KnownBytes.{Appends}
 use Rattle.clap.specs.Words.{Text, takes}
@@ -17,7 +18,14 @@ use Rattle.s39_command.specs.declared.command.Texts.{Texts}
 use Rattle.s39_command.specs.Command.{AsksForText, GivesBadValues, GivesCall, bad_text, shamir_app, text_in}
 use Rattle.s39_backup.specs.Plan.{PlanForm}
 use Rattle.s39_backup.specs.declared.plan_error.PlanError.TheVariants.{BadPlan}
+use Rattle.s39_words.specs.declared.ShareFields.{ShareFields}
+use Rattle.s39_set.specs.Counting.{quorum_count}
 use Rattle.s39_input.specs.declared.fault.Fault.{Fault}
+use Rattle.s39_input.specs.declared.fault.LineRefusal.{LineRefusal}
+use Rattle.s39_input.specs.declared.fault.Stop.{Stop}
+use Rattle.s39_input.specs.Accepted.{read_as}
+use Rattle.s39_input.specs.Input.{Input, whole}
+use Rattle.s39_reading.specs.Exponent.{exponent_of}
 use Rattle.s39_cli.specs.declared.messages.Messages.{Messages}
 use Rattle.s39_cli.specs.declared.runner.Destination.{Destination}
 use Rattle.s39_cli.specs.declared.runner.Destination.TheVariants as written_at
@@ -27,9 +35,11 @@ use Rattle.s39_cli.specs.declared.runner.Source.{Source}
 use Rattle.s39_cli.specs.declared.runner.Source.TheVariants as read_at
 use Rattle.s39_cli.specs.declared.work.Unready.{Unready}
 use Rattle.s39_cli.specs.declared.work.Unready.TheVariants.{Secret, Plan, Memory}
-use Rattle.s39_cli.specs.Ending.{IsTyped, OnEnd}
+use Rattle.s39_cli.specs.declared.work.Work.{Work}
+use Rattle.s39_cli.specs.declared.work.Work.TheVariants as work
+use Rattle.s39_cli.specs.Ending.{AreAllOf, IsTyped, OnEnd}
 use Rattle.s39_cli.specs.Outcome.{IsReady, status_of_refusal}
-use Rattle.s39_cli.specs.Values.{input_name}
+use Rattle.s39_cli.specs.Values.{TakesValues, Told, input_name}
 
 module _ {E : Type 0} (contents : E → Option (List ℕ)) where
   -- if the writer has taken all that was said, it had taken all before, and this text follows what it held
@@ -99,6 +109,36 @@ file_line name reason =
 abbrev pub long_line : Text → Text
 long_line name = file_line name (codes "the value has more than 1024 bytes")
 
+-- the greatest number of quorums that is told
+abbrev pub most_told : ℕ
+most_told = 2 ^ 64 - 1
+
+-- said of a set that is drilled: how many quorums it has, or that it has at least the greatest number that is told
+abbrev pub count_line : ℕ → Text
+count_line count = (if nat_lt count most_told then codes "shamir: number of quorums: " else codes "shamir: number of quorums: at least ")
+    ++ decimal (min count most_told) ++ codes "\n"
+
+-- about how many seconds the iterations of an exponent take
+abbrev pub seconds_of : ℕ → ℕ
+seconds_of exponent = 2 ^ exponent / 160
+
+-- the least exponent of which the seconds are said
+abbrev pub least_slow : ℕ
+least_slow = 9
+
+-- said of a set with such an exponent
+abbrev pub seconds_line : ℕ → Text
+seconds_line exponent = codes "shamir: deciphering a secret takes some " ++ decimal (seconds_of exponent) ++ codes " seconds\n"
+
+-- all that is said of a set that is drilled
+abbrev pub set_lines : List ShareFields → Text
+set_lines set = count_line (quorum_count set) ++ line_if (nat_le least_slow (exponent_of set)) (seconds_line (exponent_of set))
+
+-- the same of an input, if it is read as a set
+abbrev pub read_lines : Result (List ShareFields) (Stop LineRefusal) → Text
+read_lines (Ok set) = set_lines set
+read_lines (Err stop) = []
+
 -- ---- when they are said
 
 -- the passphrase is typed: the input is a terminal, and the passphrase is its first line
@@ -140,10 +180,20 @@ tells_of_drawing attended _ = false
 abbrev pub said_of_values : Bool → BadValues → Text
 said_of_values attended bad = bad_text bad ++ line_if (tells_of_drawing attended bad) new_secret_line
 
--- all that is said if the exit status is 0
-abbrev pub said_of : Source → Destination → Call → Text
-said_of source destination call = line_if (types_passphrase source call.files.passphrase) shown_line
-    ++ (line_if (types_mnemonics source call.job) typing_line ++ line_if (tells_of_none source destination call) bare_line)
+-- what is said of the input of a job: of the set that it drills
+abbrev pub input_lines : Job → Input → Text
+input_lines (Drill after limit form expected) input = read_lines (read_as input)
+input_lines _ input = []
+
+-- what is said once the input is read: to a person what is said of it, and that no passphrase was used if that is told
+abbrev pub late_lines : Job → Bool → Bool → Input → Text
+late_lines job attended tells_of_none input = line_if attended (input_lines job input) ++ line_if tells_of_none bare_line
+
+-- all that is said if the exit status is 0, for the input behind the values
+abbrev pub said_of : Source → Destination → Call → Input → Text
+said_of source destination call input = line_if (types_passphrase source call.files.passphrase) shown_line
+    ++ (line_if (types_mnemonics source call.job) typing_line
+    ++ late_lines call.job (is_attended source destination) (tells_of_none source destination call) input)
 
 -- ---- what is said with each exit status
 
@@ -179,16 +229,27 @@ IsNamedIn files name = (text_in files.secret ≡ Some name) ⊎ (text_in files.p
 abbrev pub IsValueLine : Texts → Text → Type 0
 IsValueLine files text = (text ≡ secret_line) ⊎ ((name : Text) × IsNamedIn files name × (text ≡ long_line name))
 
-module _ {E : Type 0} (contents : E → Option (List ℕ)) where
+-- this is the input of all that a reader has, if it tells its bytes
+abbrev pub IsAllOf : Option (List ℕ) → Input → Type 0
+IsAllOf told input = (bytes : List ℕ) × AreAllOf told bytes × (input ≡ whole bytes)
+
+module _ {R E : Type 0} (told : Told) (remaining : R → Option (List ℕ)) (contents : E → Option (List ℕ)) where
+  -- the input is what a reader has behind the values of these files
+  abbrev pub IsBehind : Texts → R → Input → Type 0
+  IsBehind files reader input = (secret passphrase : Option (List ℕ)) × (behind : R)
+      × TakesValues told remaining files secret passphrase reader behind × IsAllOf (remaining behind) input
+
   -- With exit status 0, exactly the lines of `said_of` are said. For random bytes that would be typed it is that line. With 1 it is the
   -- line about a passphrase that is typed, the line about mnemonics if the command began to read them, for which its texts had to be right,
-  -- and at most one more message. If the text of the plan has another form than a plan, it is that message, and to a person which form a
-  -- plan has. With 2 it is the line about such a passphrase, and what is wrong with a value.
-  pub record IsSaidOfCall (source : Source) (destination : Destination) (call : Call) (old new : Messages E) (status : ℕ) : Type 0 where
-    pub done : status ≡ 0 → Says contents old new (said_of source destination call)
+  -- and one message, or what is said once the input is read. If the text of the plan has another form than a plan, it is that message, and
+  -- to a person which form a plan has. With 2 it is the line about such a passphrase, and what is wrong with a value.
+  pub record IsSaidOfCall (source : Source) (destination : Destination) (call : Call) (reader : R) (old new : Messages E) (status : ℕ) : Type 0 where
+    pub done : status ≡ 0 → (input : Input) × IsBehind call.files reader input × Says contents old new (said_of source destination call input)
     pub typed : IsTyped source call.job → Says contents old new typed_line
     pub refused : status ≡ 1 → (HasFormlessPlan call.job → ⊥)
-        → (begun : Bool) × (text : Text) × IsWithin begun (types_mnemonics source call.job) × (length text ≤ longest_message)
+        → (begun : Bool) × (text : Text) × IsWithin begun (types_mnemonics source call.job)
+        × ((length text ≤ longest_message) ⊎ ((input : Input) × IsBehind call.files reader input
+        × (text ≡ late_lines call.job (is_attended source destination) (tells_of_none source destination call) input)))
         × (begun ≡ true → (secret : Text) × IsReady call.job secret)
         × Says contents old new (line_if (types_passphrase source call.files.passphrase) shown_line ++ (line_if begun typing_line ++ text))
     pub formless : status ≡ 1 → HasFormlessPlan call.job → (text : Text) × (length text ≤ longest_message)
@@ -198,16 +259,16 @@ module _ {E : Type 0} (contents : E → Option (List ℕ)) where
         × Says contents old new (line_if (types_passphrase source call.files.passphrase) shown_line ++ text))
 
   -- Nothing is said beside help or the version. What is said of values that are missing or given twice, and of a call, is as above.
-  pub record IsSaidAs (source : Source) (destination : Destination) (words : List Text) (old new : Messages E) (status : ℕ) : Type 0 where
+  pub record IsSaidAs (source : Source) (destination : Destination) (words : List Text) (reader : R) (old new : Messages E) (status : ℕ) : Type 0 where
     pub asked : AsksForText words → status ≡ 0 → Says contents old new []
     pub taken : takes shamir_app words ≡ true
         → ((bad : BadValues) × GivesBadValues words bad × Says contents old new (said_of_values (is_attended source destination) bad))
-        ⊎ ((call : Call) × GivesCall words call × IsSaidOfCall source destination call old new status)
+        ⊎ ((call : Call) × GivesCall words call × IsSaidOfCall source destination call reader old new status)
 
   -- If memory runs out, that is said, after the lines that were said before.
-  abbrev pub IsSaid : {R W : Type 0} → Source → Destination → List Text → Messages E → Messages E → Ended R W → Type 0
-  IsSaid source destination words old new (With status read_to written_to) = IsSaidAs source destination words old new status
-  IsSaid source destination words old new NoMemory = (typed begun : Bool) × IsWithin typed (is_terminal source) × IsWithin begun (is_terminal source)
+  abbrev pub IsSaid : {W : Type 0} → Source → Destination → List Text → R → Messages E → Messages E → Ended R W → Type 0
+  IsSaid source destination words reader old new (With status read_to written_to) = IsSaidAs source destination words reader old new status
+  IsSaid source destination words reader old new NoMemory = (typed begun : Bool) × IsWithin typed (is_terminal source) × IsWithin begun (is_terminal source)
       × Says contents old new (line_if typed shown_line ++ (line_if begun typing_line ++ memory_line))
 
 -- ---- within the program; no public contract cites this
@@ -227,10 +288,10 @@ module _ {E : Type 0} (contents : E → Option (List ℕ)) where
   SaysFormless attended old new =
       (text : Text) × (length text ≤ longest_message) × Says contents old new (text ++ line_if attended plan_form_line)
 
-  -- of an answer without a fault it is said that no passphrase was used, if a person is told so; of one with a refusal it isn't
-  abbrev pub SaysOfNone : Bool → Result Bool Fault → Messages E → Messages E → Type 0
-  SaysOfNone tells_of_none (Ok is_well) old new = Says contents old new (line_if tells_of_none bare_line)
-  SaysOfNone tells_of_none (Err fault) old new = status_of_refusal fault.refusal ≡ 1 → new ≡ old
+  -- beside an answer without a fault this is said, and nothing beside a refusal
+  abbrev pub SaysBeside : {T : Type 0} → Text → Result T Fault → Messages E → Messages E → Type 0
+  SaysBeside text (Ok found) old new = Says contents old new text
+  SaysBeside text (Err fault) old new = status_of_refusal fault.refusal ≡ 1 → new ≡ old
 
   -- a fault is said
   abbrev pub SaysFault : Result Bool Fault → Messages E → Messages E → Type 0
@@ -245,24 +306,41 @@ module _ {E : Type 0} (contents : E → Option (List ℕ)) where
   IsSaidUnbegun attended Memory old new ended = (ended ≡ NoMemory) × Says contents old new memory_line
   IsSaidUnbegun attended _ old new ended = OnStatus ended (λ status. (status ≡ 1) × SaysMessage old new)
 
-  -- what is said for a job, by whether a person looks on, whether mnemonics are typed for it, and whether a person is told that no passphrase was used
-  pub record IsSaidBy (job : Job) (attended types_mnemonics tells_of_none : Bool) (old new : Messages E) (status : ℕ) : Type 0 where
-    pub done : status ≡ 0 → Says contents old new (line_if types_mnemonics typing_line ++ line_if tells_of_none bare_line)
-    pub refused : status ≡ 1 → (HasFormlessPlan job → ⊥)
-        → (begun : Bool) × (text : Text) × IsWithin begun types_mnemonics × (length text ≤ longest_message)
-        × (begun ≡ true → (secret : Text) × IsReady job secret) × Says contents old new (line_if begun typing_line ++ text)
-    pub formless : status ≡ 1 → HasFormlessPlan job → SaysFormless attended old new
-    pub wrong : status ≡ 2 → Says contents old new secret_line
-
-  -- the same for how it ends
-  abbrev pub IsSaidOfJob : {R W : Type 0} → Job → Bool → Bool → Bool → Messages E → Messages E → Ended R W → Type 0
-  IsSaidOfJob job attended types_mnemonics tells_of_none old new (With status read_to written_to) = IsSaidBy job attended types_mnemonics tells_of_none old new status
-  IsSaidOfJob job attended types_mnemonics tells_of_none old new NoMemory =
-      (begun : Bool) × IsWithin begun types_mnemonics × Says contents old new (line_if begun typing_line ++ memory_line)
-
   -- what is said for words that give no job, by whether a person looks on
   abbrev pub IsSaidWithoutJob : {R W : Type 0} → Bool → NoJob → Messages E → Messages E → Ended R W → Type 0
   IsSaidWithoutJob attended (Help text) old new ended = OnStatus ended (λ status. status ≡ 0 → Says contents old new [])
   IsSaidWithoutJob attended (Refused text) old new ended = OnStatus ended (λ status. (status ≡ 2) × Says contents old new (string_bytes text))
   IsSaidWithoutJob attended (Values bad) old new ended = OnStatus ended (λ status. (status ≡ 2) × Says contents old new (said_of_values attended bad))
   IsSaidWithoutJob attended no_job.Memory old new ended = (ended ≡ NoMemory) × Says contents old new memory_line
+
+-- what is said of the input of a work, as of that of its job
+abbrev pub work_input_lines : Work → Input → Text
+work_input_lines (work.Drill drill) input = read_lines (read_as input)
+work_input_lines _ input = []
+
+-- what is said once the input of a work is read, as once that of its job is
+abbrev pub work_late_lines : Work → Bool → Bool → Input → Text
+work_late_lines w attended tells_of_none input = line_if attended (work_input_lines w input) ++ line_if tells_of_none bare_line
+
+module _ {R E : Type 0} (remaining : R → Option (List ℕ)) (contents : E → Option (List ℕ)) where
+  -- beside an answer without a fault this is said for the input that a reader has, and nothing beside a refusal
+  abbrev pub SaysOnceRead : {T : Type 0} → (Input → Text) → R → Result T Fault → Messages E → Messages E → Type 0
+  SaysOnceRead lines reader answer old new = (input : Input) × IsAllOf (remaining reader) input × SaysBeside contents (lines input) answer old new
+
+  -- what is said for a job, by whether a person looks on, whether mnemonics are typed for it, and whether a person is told that no passphrase was used
+  pub record IsSaidBy (job : Job) (attended types_mnemonics tells_of_none : Bool) (reader : R) (old new : Messages E) (status : ℕ) : Type 0 where
+    pub done : status ≡ 0 → (input : Input) × IsAllOf (remaining reader) input
+        × Says contents old new (line_if types_mnemonics typing_line ++ late_lines job attended tells_of_none input)
+    pub refused : status ≡ 1 → (HasFormlessPlan job → ⊥)
+        → (begun : Bool) × (text : Text) × IsWithin begun types_mnemonics
+        × ((length text ≤ longest_message) ⊎ ((input : Input) × IsAllOf (remaining reader) input × (text ≡ late_lines job attended tells_of_none input)))
+        × (begun ≡ true → (secret : Text) × IsReady job secret) × Says contents old new (line_if begun typing_line ++ text)
+    pub formless : status ≡ 1 → HasFormlessPlan job → SaysFormless contents attended old new
+    pub wrong : status ≡ 2 → Says contents old new secret_line
+
+  -- the same for how it ends
+  abbrev pub IsSaidOfJob : {W : Type 0} → Job → Bool → Bool → Bool → R → Messages E → Messages E → Ended R W → Type 0
+  IsSaidOfJob job attended types_mnemonics tells_of_none reader old new (With status read_to written_to) =
+      IsSaidBy job attended types_mnemonics tells_of_none reader old new status
+  IsSaidOfJob job attended types_mnemonics tells_of_none reader old new NoMemory =
+      (begun : Bool) × IsWithin begun types_mnemonics × Says contents old new (line_if begun typing_line ++ memory_line)

@@ -1,15 +1,17 @@
 //! How the output of a command goes to its writer.
-ghost use Rattle.std.specs.Prelude.{◌≡◌, IsFalse, IsTrue, IfNone, IfSome, [], Err};
+ghost use Rattle.std.specs.Prelude.{◌≡◌, ◌<◌, IsFalse, IsTrue, IfNone, IfSome, [], Err};
 ghost use Rattle.std.specs.Io.Buffered.{writer_buffer, writer_contents, writer_inner};
 ghost use Rattle.std.specs.Io.KnownBytes.{Keeps};
 ghost use Rattle.s39_input.specs.Fault.{fault_of};
+ghost use Rattle.s39_input.specs.Runs.{Runs};
 ghost use Rattle.s39_cli.specs.Ending.{Delivers, GoesOut, HandsOn, HasStatus};
 ghost use Rattle.s39_cli.specs.Outcome.{status_of};
-ghost use Rattle.s39_cli.specs.Said.{SaysOfNone};
+ghost use Rattle.s39_cli.specs.Said.{SaysOnceRead, work_late_lines};
 ghost use Rattle.s39_cli.specs.Untouched.{IsAtItsEnd};
 ghost use Rattle.s39_cli.specs.Work.{IsWorkOutput};
 
 use crate::messages::Messages;
+use crate::notes::Notes;
 use crate::patient::Patient;
 use crate::telling::tell_of_none;
 use crate::work::Work;
@@ -26,6 +28,31 @@ pub(crate) struct Finished<R, W> {
     pub(crate) output: W,
 }
 
+/// Runs a command, and tells a person what the notes say: of the input that it read, and that no passphrase was used.
+fn run_told<R: Read, W: Write, E: Write>(
+    work: &Work,
+    input: &mut Counting<R>,
+    output: &mut Counting<W>,
+    notes: Notes,
+    errors: &mut Messages<E>,
+) -> Result<bool, Fault>
+    requires readable { input.old.failures < u64.MAX }
+    requires writable { output.old.failures < u64.MAX }
+    ensures runs { Runs R.remaining W.contents (IsWorkOutput work.now)
+        input.old input.new output.old output.new result }
+    ensures said { SaysOnceRead R.remaining E.contents
+        (work_late_lines work.now notes.is_attended notes.tells_of_none) input.old.device result
+        errors.old errors.new }
+    // Of any devices.
+    ensures untouched { IsAtItsEnd work.now → status_of result ≡ 1
+        → ((fault : Fault) × (result ≡ Err fault)) × (output.new ≡ output.old) }
+    ensures silent { IsFalse notes.is_attended → IsFalse notes.tells_of_none → errors.new ≡ errors.old }
+{
+    let answer = work.run(input, output, notes.is_attended, errors);
+    tell_of_none(&answer, notes.tells_of_none, errors);
+    answer
+}
+
 /// Runs a command whose output goes out as its buffer fills, and gives `None` if there is no memory for the buffer. A person is told
 /// that no passphrase was used before the rest of the buffer goes out, in which the secret of a recovery is.
 pub(crate) fn by_buffer<R: Read + Drop, W: Write + Drop, E: Write>(
@@ -33,7 +60,7 @@ pub(crate) fn by_buffer<R: Read + Drop, W: Write + Drop, E: Write>(
     work: &Work,
     input: R,
     output: W,
-    tells_of_none: bool,
+    notes: Notes,
     errors: &mut Messages<E>,
 ) -> Option<Finished<R, W>>
     ensures delivers { IfSome result (λ finished.
@@ -42,9 +69,10 @@ pub(crate) fn by_buffer<R: Read + Drop, W: Write + Drop, E: Write>(
     // Of any devices.
     ensures untouched { IfSome result (λ finished.
         IsAtItsEnd work.now → status_of finished.answer ≡ 1 → finished.output ≡ output) }
-    ensures said { IfSome result (λ finished.
-        SaysOfNone E.contents tells_of_none finished.answer errors.old errors.new) }
-    ensures silent { IsFalse tells_of_none → errors.new ≡ errors.old }
+    ensures said { IfSome result (λ finished. SaysOnceRead R.remaining E.contents
+        (work_late_lines work.now notes.is_attended notes.tells_of_none) input finished.answer
+        errors.old errors.new) }
+    ensures silent { IsFalse notes.is_attended → IsFalse notes.tells_of_none → errors.new ≡ errors.old }
     ensures unsaid { IfNone result (errors.new ≡ errors.old) }
 {
     let Ok(buffered) = BufWriter::new(alloc, output) else {
@@ -52,8 +80,7 @@ pub(crate) fn by_buffer<R: Read + Drop, W: Write + Drop, E: Write>(
     };
     let mut reader = Counting::new(input);
     let mut writer = Counting::new(buffered);
-    let answer = work.run(&mut reader, &mut writer);
-    tell_of_none(&answer, tells_of_none, errors);
+    let answer = run_told(work, &mut reader, &mut writer, notes, errors);
     let (answer, output) = handed_on(answer, writer.into_inner());
     Some(Finished {
         answer,
@@ -101,17 +128,23 @@ fn hand_on<W: Write + Drop>(answer: &Result<bool, Fault>, output: &mut BufWriter
 }
 
 /// Runs a command whose output goes out line by line, each line in one piece.
-pub(crate) fn by_lines<R: Read + Drop, W: Write + Drop>(
+pub(crate) fn by_lines<R: Read + Drop, W: Write + Drop, E: Write>(
     work: &Work,
     input: R,
     output: W,
+    notes: Notes,
+    errors: &mut Messages<E>,
 ) -> Finished<R, W>
-    ensures { Delivers R.remaining W.contents (HasStatus (IsWorkOutput work.now))
+    ensures delivers { Delivers R.remaining W.contents (HasStatus (IsWorkOutput work.now))
         input output (status_of result.answer) result.input result.output }
+    ensures said { SaysOnceRead R.remaining E.contents
+        (work_late_lines work.now notes.is_attended notes.tells_of_none) input result.answer
+        errors.old errors.new }
+    ensures silent { IsFalse notes.is_attended → IsFalse notes.tells_of_none → errors.new ≡ errors.old }
 {
     let mut reader = Counting::new(input);
     let mut writer = Counting::new(Patient::new(output));
-    let answer = work.run(&mut reader, &mut writer);
+    let answer = run_told(work, &mut reader, &mut writer, notes, errors);
     let (answer, output) = flushed(answer, writer.into_inner());
     Finished {
         answer,

@@ -1,5 +1,6 @@
 //! Facts about the definitions. Each is the contract of a function that does nothing, or only calls other laws.
 ghost use Rattle.std.specs.Prelude.{◌≡◌, ◌++◌, ℕ, List, [], ◌∷◌, Option, Some, codes, false, length};
+ghost use Rattle.s39_input.specs.Input.{Input};
 ghost use Rattle.s39_set.specs.Written.{IsWrittenForm};
 ghost use Rattle.s39_command.specs.declared.command.Call.{Call};
 ghost use Rattle.s39_command.specs.declared.command.Job.{Job};
@@ -45,7 +46,8 @@ pub fn told_bytes_are_exact()
 
 /// If no person looks on, there is nothing to say with status 0, and the writer of messages then stays as it was.
 pub fn nothing_is_said_to_nobody<R, W, E>()
-    ensures unsaid { (call : Call) → said_of Source.Elsewhere Destination.Elsewhere call ≡ [] }
+    ensures unsaid { (call : Call) (input : Input)
+        → said_of Source.Elsewhere Destination.Elsewhere call input ≡ [] }
     ensures silent { (input : R) (output : W) (old new : E)
         → IsSilentAtNone false (Ended.With 0 input output) old new → new ≡ old }
 {}

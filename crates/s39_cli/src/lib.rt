@@ -4,6 +4,7 @@
 
 pub mod by_words;
 mod delivery;
+mod drilling;
 pub mod laws;
 mod messages;
 mod notes;

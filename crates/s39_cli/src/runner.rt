@@ -12,9 +12,7 @@ use crate::delivery::{by_buffer, by_lines, show, write_failed};
 use crate::messages::Messages;
 use crate::notes::{NEW_SECRET, Notes, SHOWN, TYPING, is_attended, tells_of_drawing};
 use crate::random_file::{NoRandom, random_of};
-use crate::telling::{
-    REASON_BYTES, answered, no_memory_left, report, say_of_file, tell_of_none, unbegun,
-};
+use crate::telling::{REASON_BYTES, answered, no_memory_left, report, say_of_file, unbegun};
 use crate::values::{NoValue, Secrets, Shelf, Unread, Values};
 use crate::work::{Unready, Work};
 use s39_command::{BadValues, Job, NoJob, read_words};
@@ -102,8 +100,8 @@ pub fn program<S: Shelf, R: Read + Drop, W: Write + Drop, E: Write>(
         (map (λ word. word.now) words.now) input output result }
     // Of any.
     ensures untouched { IsUntouchedIfRefused (map (λ word. word.now) words.now) result output }
-    ensures said { IsSaid E.contents source destination (map (λ word. word.now) words.now)
-        errors.old errors.new result }
+    ensures said { IsSaid (S.told shelf.now) R.remaining E.contents source destination
+        (map (λ word. word.now) words.now) input errors.old errors.new result }
     // Of any writer of messages.
     ensures silent { IsSilentAtNone (is_attended source destination) result errors.old errors.new }
 {
@@ -153,9 +151,9 @@ fn by_job<S: Shelf, R: Read + Drop, W: Write + Drop, E: Write>(
     ensures ends { OnEnd result (DoesDrawn (S.told shelf.now) R.remaining W.contents job.entry
         texts.entry.secret.now texts.entry.passphrase.now input output) }
     ensures untouched { IsUntouchedBy job.entry result output }
-    ensures said { IsSaidOfJob E.contents job.entry notes.is_attended notes.types_mnemonics
-        notes.tells_of_none errors.old errors.new result }
-    ensures silent { IsFalse notes.types_mnemonics
+    ensures said { IsSaidOfJob R.remaining E.contents job.entry notes.is_attended
+        notes.types_mnemonics notes.tells_of_none input errors.old errors.new result }
+    ensures silent { IsFalse notes.is_attended → IsFalse notes.types_mnemonics
         → IsSilentAtNone notes.tells_of_none result errors.old errors.new }
 {
     let Some((plan, name)) = random_file(&job) else {
@@ -209,9 +207,9 @@ fn by_texts<R: Read + Drop, W: Write + Drop, E: Write>(
     ensures ends { OnEnd result (DoesJob R.remaining W.contents job.entry texts.entry.secret.now
         texts.entry.passphrase.now input output) }
     ensures untouched { IsUntouchedBy job.entry result output }
-    ensures said { IsSaidOfJob E.contents job.entry notes.is_attended notes.types_mnemonics
-        notes.tells_of_none errors.old errors.new result }
-    ensures silent { IsFalse notes.types_mnemonics
+    ensures said { IsSaidOfJob R.remaining E.contents job.entry notes.is_attended
+        notes.types_mnemonics notes.tells_of_none input errors.old errors.new result }
+    ensures silent { IsFalse notes.is_attended → IsFalse notes.types_mnemonics
         → IsSilentAtNone notes.tells_of_none result errors.old errors.new }
 {
     let work = match Work::of(alloc, job, texts) {
@@ -220,11 +218,10 @@ fn by_texts<R: Read + Drop, W: Write + Drop, E: Write>(
     };
     errors.say_if(asks(notes, &work), TYPING);
     if work.goes_by_lines(destination) {
-        let finished = by_lines(&work, input, output);
-        tell_of_none(&finished.answer, notes.tells_of_none, errors);
+        let finished = by_lines(&work, input, output, notes, errors);
         return answered(finished, errors);
     }
-    match by_buffer(alloc, &work, input, output, notes.tells_of_none, errors) {
+    match by_buffer(alloc, &work, input, output, notes, errors) {
         Some(finished) => answered(finished, errors),
         None => no_memory_left(errors),
     }

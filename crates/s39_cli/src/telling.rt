@@ -3,7 +3,7 @@ ghost use Rattle.std.specs.Prelude.{◌≡◌, ◌≢◌, IsFalse};
 ghost use Rattle.std.specs.IoError.{error_kind};
 ghost use Rattle.s39_cli.specs.Ending.{EndsUnbegun};
 ghost use Rattle.s39_cli.specs.Outcome.{status_of, status_of_refusal};
-ghost use Rattle.s39_cli.specs.Said.{IsSaidUnbegun, Says, SaysFault, SaysFormless, SaysMessage, SaysOfNone, file_line, memory_line, no_text_line};
+ghost use Rattle.s39_cli.specs.Said.{IsSaidUnbegun, Says, SaysBeside, SaysFault, SaysFormless, SaysMessage, bare_line, file_line, line_if, memory_line, no_text_line};
 
 use crate::delivery::Finished;
 use crate::messages::Messages;
@@ -133,7 +133,8 @@ pub(crate) fn tell_of_none<E: Write>(
     tells_of_none: bool,
     errors: &mut Messages<E>,
 )
-    ensures said { SaysOfNone E.contents tells_of_none answer.now errors.old errors.new }
+    ensures said { SaysBeside E.contents (line_if tells_of_none bare_line) answer.now errors.old
+        errors.new }
     ensures silent { IsFalse tells_of_none → errors.new ≡ errors.old }
 {
     errors.say_if(tells_of_none && answer.is_ok(), BARE);

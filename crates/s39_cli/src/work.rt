@@ -1,5 +1,5 @@
 //! Commands that are ready to run.
-ghost use Rattle.std.specs.Prelude.{◌≡◌, ◌<◌, ◌≤◌, ◌↔◌, false, IfOk, IfErr, IsSomeAnd, IsTrue, Err};
+ghost use Rattle.std.specs.Prelude.{◌≡◌, ◌<◌, ◌≤◌, ◌↔◌, false, IfOk, IfErr, IsFalse, IsSomeAnd, IsTrue, Err};
 ghost use Rattle.s39_set.specs.Status.{is_enough};
 ghost use Rattle.s39_input.specs.Runs.{Runs};
 ghost use Rattle.s39_command.specs.Command.{IsInRange, text_in};
@@ -7,6 +7,8 @@ ghost use Rattle.s39_cli.specs.Outcome.{IsCursor, IsNoted, WritesNoFingerprint, 
 ghost use Rattle.s39_cli.specs.Outcome.{judged, status_of, told_in, where_done, without_mismatches};
 ghost use Rattle.s39_cli.specs.Unready.{IsNoReissue, IsUnready};
 
+use crate::drilling::drill_told;
+use crate::messages::Messages;
 use crate::runner::Destination;
 use crate::secret_text::secret_of;
 use crate::values::Secrets;
@@ -15,8 +17,8 @@ use s39_command::Job;
 use s39_kdf::{BadFingerprint, NotedFingerprint, check_passphrase, parse_fingerprint};
 use s39_set::{BadCursor, BadNames, Quorum, Status, parse_names, parse_quorum};
 use s39_tool::{
-    Counting, Done, Fault, Options, Plan, PlanError, SecretForm, run_create, run_drill,
-    run_recover, run_reissue, run_repair, run_resplit, run_show, run_status,
+    Counting, Done, Fault, Options, Plan, PlanError, SecretForm, run_create, run_recover,
+    run_reissue, run_repair, run_resplit, run_show, run_status,
 };
 use std::alloc::Global;
 use std::io::{Read, Write};
@@ -33,10 +35,10 @@ pub(crate) struct Creation<'a> {
 /// What a drill is of, beside the mnemonics.
 #[derive(Drop)]
 pub(crate) struct Drill<'a> {
-    passphrase: &'a [u8],
-    after: Option<Quorum>,
-    limit: u32,
-    form: SecretForm,
+    pub(crate) passphrase: &'a [u8],
+    pub(crate) after: Option<Quorum>,
+    pub(crate) limit: u32,
+    pub(crate) form: SecretForm,
     ghost some: { 1 ≤ limit },
 }
 
@@ -183,6 +185,7 @@ impl Reissue {
 }
 
 impl<'a> Work<'a> {
+    ghost use Rattle.s39_cli.specs.Said.{SaysOnceRead, line_if, work_input_lines};
     ghost use Rattle.s39_cli.specs.Untouched.{IsAtItsEnd};
     ghost use Rattle.s39_cli.specs.Work.{HasBadPassphrase, IsWorkOf, IsWorkOutput};
 
@@ -270,19 +273,26 @@ impl<'a> Work<'a> {
     }
 
     /// Runs the command, and gives whether all is well: no quorum was refused or gives another secret than the expected one,
-    /// enough groups are complete, and one mnemonic fits each line, if the command looks for that.
-    pub(crate) fn run<R: Read, W: Write>(
+    /// enough groups are complete, and one mnemonic fits each line, if the command looks for that. If a person looks on, a drill
+    /// tells first how much there is to do.
+    pub(crate) fn run<R: Read, W: Write, E: Write>(
         &self,
         input: &mut Counting<R>,
         output: &mut Counting<W>,
+        is_attended: bool,
+        errors: &mut Messages<E>,
     ) -> Result<bool, Fault>
         requires readable { input.old.failures < u64.MAX }
         requires writable { output.old.failures < u64.MAX }
         ensures runs { Runs R.remaining W.contents (IsWorkOutput self.now)
             input.old input.new output.old output.new result }
+        ensures said { SaysOnceRead R.remaining E.contents
+            (λ input. line_if is_attended (work_input_lines self.now input)) input.old.device result
+            errors.old errors.new }
         // Of any devices.
         ensures untouched { IsAtItsEnd self.now → status_of result ≡ 1
             → ((fault : Fault) × (result ≡ Err fault)) × (output.new ≡ output.old) }
+        ensures silent { IsFalse is_attended → errors.new ≡ errors.old }
     {
         match self {
             Work::Show => where_done(run_show(input, output)),
@@ -299,14 +309,9 @@ impl<'a> Work<'a> {
                 form,
                 expected,
             } => where_done(run_recover(*form, *expected, passphrase, input, output)),
-            Work::Drill(drill) => without_mismatches(run_drill(
-                drill.form,
-                drill.passphrase,
-                drill.after.as_ref(),
-                drill.limit,
-                input,
-                output,
-            )),
+            Work::Drill(drill) => {
+                without_mismatches(drill_told(drill, input, output, is_attended, errors))
+            }
             Work::Status => with_enough(run_status(input, output)),
             Work::Reissue(reissue) => {
                 where_done(run_reissue(&reissue.plan, &reissue.names, input, output))

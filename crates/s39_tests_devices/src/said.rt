@@ -18,6 +18,10 @@ const SHOWN: &str = "shamir: the passphrase is shown as it is typed\n";
 
 const BARE: &str = "shamir: no passphrase was used: a backup with one gives another secret here\n";
 
+const ONE: &str = "shamir: number of quorums: 1\n";
+
+const SEVEN: &str = "shamir: number of quorums: 7\n";
+
 const PLAN_FORM: &str =
     "shamir: a plan is TofN for one group, or GT/T1ofN1,T2ofN2,.. for several, as 2of3 or 2/2of3,1of1,1of1\n";
 
@@ -86,17 +90,17 @@ fn expect_said(
 fn asks_for_mnemonics_at_a_terminal(rt: HostRuntime) -> Result<(), Fail> {
     let alloc = rt.alloc();
     let one = lines(alloc, &[ONE_OF_ONE])?;
-    let commands: [&[&str]; 6] = [
-        &["shamir", "show"],
-        &["shamir", "recover", "--passphrase", "TREZOR"],
-        &["shamir", "drill", "--passphrase="],
-        &["shamir", "status"],
-        &["shamir", "reissue", "1of1", "0.0"],
-        &["shamir", "repair"],
+    let commands: [(&[&str], &str); 6] = [
+        (&["shamir", "show"], ""),
+        (&["shamir", "recover", "--passphrase", "TREZOR"], ""),
+        (&["shamir", "drill", "--passphrase="], ONE),
+        (&["shamir", "status"], ""),
+        (&["shamir", "reissue", "1of1", "0.0"], ""),
+        (&["shamir", "repair"], ""),
     ];
-    for words in commands {
-        expect_said(&rt, alloc, (words, &one, TYPED), &[TYPING], 0)?;
-        expect_said(&rt, alloc, (words, &one, SEEN), &[], 0)?;
+    for (words, told) in commands {
+        expect_said(&rt, alloc, (words, &one, TYPED), &[TYPING, told], 0)?;
+        expect_said(&rt, alloc, (words, &one, SEEN), &[told], 0)?;
         expect_said(&rt, alloc, (words, &one, PIPED), &[], 0)?;
     }
     Ok(())
@@ -149,26 +153,26 @@ fn tells_that_no_passphrase_was_used(rt: HostRuntime) -> Result<(), Fail> {
     let alloc = rt.alloc();
     let one = lines(alloc, &[ONE_OF_ONE])?;
     let five = lines(alloc, &FIVE)?;
-    for command in ["recover", "drill"] {
+    for (command, count) in [("recover", ""), ("drill", ONE)] {
         let bare = ["shamir", command];
-        expect_said(&rt, alloc, (&bare, &one, TYPED), &[TYPING, BARE], 0)?;
-        expect_said(&rt, alloc, (&bare, &one, SEEN), &[BARE], 0)?;
+        expect_said(&rt, alloc, (&bare, &one, TYPED), &[TYPING, count, BARE], 0)?;
+        expect_said(&rt, alloc, (&bare, &one, SEEN), &[count, BARE], 0)?;
         expect_said(&rt, alloc, (&bare, &one, PIPED), &[], 0)?;
         let told = ["shamir", command, "--fingerprint"];
-        expect_said(&rt, alloc, (&told, &one, SEEN), &[BARE], 0)?;
+        expect_said(&rt, alloc, (&told, &one, SEEN), &[count, BARE], 0)?;
         for option in [
             "--passphrase=",
             "--passphrase=TREZOR",
             "--passphrase-file=f",
         ] {
             let given = ["shamir", command, option];
-            expect_said(&rt, alloc, (&given, &one, TYPED), &[TYPING], 0)?;
-            expect_said(&rt, alloc, (&given, &one, SEEN), &[], 0)?;
+            expect_said(&rt, alloc, (&given, &one, TYPED), &[TYPING, count], 0)?;
+            expect_said(&rt, alloc, (&given, &one, SEEN), &[count], 0)?;
         }
     }
-    expect_said(&rt, alloc, (&["shamir", "drill"], &five, SEEN), &[BARE], 0)?;
+    expect_said(&rt, alloc, (&["shamir", "drill"], &five, SEEN), &[SEVEN, BARE], 0)?;
     let other = ["shamir", "drill", "--expect=00000000"];
-    expect_said(&rt, alloc, (&other, &one, SEEN), &[], 1)?;
+    expect_said(&rt, alloc, (&other, &one, SEEN), &[ONE], 1)?;
     Ok(())
 }
 
@@ -185,8 +189,36 @@ fn tells_that_no_passphrase_was_used_after_mismatches(rt: HostRuntime) -> Result
         ],
     )?;
     let drill = ["shamir", "drill"];
-    expect_said(&rt, alloc, (&drill, &changed, SEEN), &[BARE], 1)?;
+    expect_said(&rt, alloc, (&drill, &changed, SEEN), &[ONE, BARE], 1)?;
     expect_said(&rt, alloc, (&drill, &changed, PIPED), &[], 1)?;
+    Ok(())
+}
+
+#[test]
+fn tells_how_many_quorums_a_set_has(rt: HostRuntime) -> Result<(), Fail> {
+    let alloc = rt.alloc();
+    let five = lines(alloc, &FIVE)?;
+    let cases: [(&[&str], &str, u8); 5] = [
+        (&["shamir", "drill", "--passphrase="], SEVEN, 0),
+        (&["shamir", "drill", "--passphrase=", "--limit=2"], SEVEN, 0),
+        (
+            &["shamir", "drill", "--passphrase=", "--after=0.0+0.1+1.0"],
+            SEVEN,
+            0,
+        ),
+        (
+            &["shamir", "drill", "--passphrase=", "--after=0.0"],
+            "shamir: 62 cursor is no quorum\n",
+            1,
+        ),
+        (&["shamir", "recover", "--passphrase="], "", 0),
+    ];
+    for (words, told, status) in cases {
+        expect_said(&rt, alloc, (words, &five, SEEN), &[told], status)?;
+        expect_said(&rt, alloc, (words, &five, TYPED), &[TYPING, told], status)?;
+    }
+    let quiet = ["shamir", "drill", "--passphrase="];
+    expect_said(&rt, alloc, (&quiet, &five, PIPED), &[], 0)?;
     Ok(())
 }
 
@@ -258,14 +290,17 @@ fn keeps_its_answer_where_nothing_can_be_said(rt: HostRuntime) -> Result<(), Fai
     let typed = lines(alloc, &["", ONE_OF_ONE])?;
     let words = ["shamir", "recover", "--passphrase-file=-"];
     let bare = ["shamir", "drill"];
-    for (words, input) in [(words.as_slice(), typed.as_str()), (&bare, ONE_OF_ONE)] {
+    for (words, input, calls) in [
+        (words.as_slice(), typed.as_str(), 2),
+        (&bare, ONE_OF_ONE, 3),
+    ] {
         let (mut all, mut none, mut one) = (Vec::new(alloc), Vec::new(alloc), Vec::new(alloc));
         let told = run(alloc, words, input, &mut all, Vec::new(alloc), TYPED);
         let untold = run(alloc, words, input, &mut none, Full, TYPED);
         // The first line fails. The lines behind it are said.
         let mut halting = FailingAtFirst::new(alloc, ErrorKind::Other, 1, b"");
         let halted = run(alloc, words, input, &mut one, &mut halting, TYPED);
-        assert_eq!(rt; (told, untold, halted, halting.calls), (0, 0, 0, 2));
+        assert_eq!(rt; (told, untold, halted, halting.calls), (0, 0, 0, calls));
         assert_eq!(rt;
             (all.len() > 0, none.as_slice(), one.as_slice()),
             (true, all.as_slice(), all.as_slice())

@@ -1,17 +1,26 @@
 use Rattle.std.proofs.Common.{subst}
 use Rattle.std.specs.Io.Buffered.{writer_contents}
 use Rattle.s39_cli.specs.Ending.{HandsOn}
+use Rattle.s39_cli.specs.Said.{work_late_lines}
 use Rattle.s39_cli.specs.Work.{IsWorkOutput}
 use Rattle.s39_cli.proofs.Deliveries.{delivers_behind, empty_buffer}
+use Rattle.s39_cli.proofs.SaidByRuns.{said_behind}
 use Rattle.s39_cli.proofs.delivery.by_buffer.Goals as goal
 
 pub returns-clause-delivers : goal.returns-clause-delivers
 returns-clause-delivers g c =
     delivers_behind g.R.Read.remaining (writer_contents g.W.Write.contents) g.W.Write.contents (IsWorkOutput c.args.work.now) c.new-reader.result
-    c.run-answer.new.input c.new-writer.result c.run-answer.new.output c.args.output c.handed_on-answer.result.1 c.run-answer.result
-    c.handed_on-answer.result.0 c.run-answer.ensures.runs
+    c.run_told-answer.new.input c.new-writer.result c.run_told-answer.new.output c.args.output c.handed_on-answer.result.1 c.run_told-answer.result
+    c.handed_on-answer.result.0 c.run_told-answer.ensures.runs
     (empty_buffer g.W.Write.contents c.args.output c.in-Ok.buffered c.new-writer.result.device c.new-writer.ensures.device c.in-Ok.ensures.inner
     c.in-Ok.ensures.empty)
-    (subst (λ b. HandsOn (writer_contents g.W.Write.contents b) (g.W.Write.contents c.handed_on-answer.result.1) c.run-answer.result
+    (subst (λ b. HandsOn (writer_contents g.W.Write.contents b) (g.W.Write.contents c.handed_on-answer.result.1) c.run_told-answer.result
     c.handed_on-answer.result.0) c.into_inner.ensures c.handed_on-answer.ensures.handed)
     c.args.input c.into_inner-2.result c.new-reader.ensures.device c.into_inner-2.ensures
+
+pub returns-clause-said : goal.returns-clause-said
+returns-clause-said g c =
+    said_behind g.R.Read.remaining g.E.Write.contents c.new-reader.result.device
+    (work_late_lines c.args.work.now c.args.notes.is_attended c.args.notes.tells_of_none) (writer_contents g.W.Write.contents c.into_inner.result)
+    (g.W.Write.contents c.handed_on-answer.result.1) c.args.errors.now c.run_told-answer.new.errors c.args.input c.new-reader.ensures.device
+    c.run_told-answer.result c.handed_on-answer.result.0 c.run_told-answer.ensures.said c.handed_on-answer.ensures.handed

@@ -13,6 +13,6 @@ returns-in-Err-clause-ends g c =
 
 pub returns-in-Err-clause-said : goal.returns-in-Err-clause-said
 returns-in-Err-clause-said g c =
-    said_of_plan g.E.Write.contents c.args.job [] c.args.notes.is_attended c.args.notes.types_mnemonics c.args.notes.tells_of_none c.in-Err.error
-    c.unbegun.result c.args.errors.now c.unbegun.new.errors
+    said_of_plan g.E.Write.contents g.R.Read.remaining c.args.job [] c.args.notes.is_attended c.args.notes.types_mnemonics
+    c.args.notes.tells_of_none c.in-Err.error c.args.input c.unbegun.result c.args.errors.now c.unbegun.new.errors
     (subst (λ (j : Job). HasBadPlan j [] c.in-Err.error) (sym c.in-Some.ensures.some) c.in-Err.ensures.reading) c.unbegun.ensures.said

@@ -2,7 +2,6 @@ use Rattle.std.proofs.Common.{subst}
 use Rattle.s39_cli.specs.Outcome.{status_of}
 use Rattle.s39_cli.specs.Said.{Says, memory_line}
 use Rattle.s39_cli.proofs.Ends.{does_work}
-use Rattle.s39_cli.proofs.Works.{ready_of_work}
 use Rattle.s39_cli.proofs.Untouched.{run_untouched, work_alike}
 use Rattle.s39_cli.proofs.Said.{said_by_work, said_for_memory, said_unbegun}
 use Rattle.s39_cli.proofs.runner.by_texts.Goals as goal
@@ -12,7 +11,7 @@ returns-then-goes_by_lines-clause-ends g c =
     let run = c.by_lines-finished.result in
     does_work g.R.Read.remaining g.W.Write.contents c.args.job c.args.texts.secret.now c.args.texts.passphrase.now c.args.input
     c.args.output c.in-Ok.work (status_of run.answer) run.input run.output
-    c.answered.result c.in-Ok.ensures.work c.by_lines-finished.ensures c.answered.ensures.ends
+    c.answered.result c.in-Ok.ensures.work c.by_lines-finished.ensures.delivers c.answered.ensures.ends
 
 pub returns-in-Some-clause-ends : goal.returns-in-Some-clause-ends
 returns-in-Some-clause-ends g c =
@@ -36,30 +35,32 @@ returns-in-Some-clause-untouched g c =
 
 pub returns-in-Err-clause-said : goal.returns-in-Err-clause-said
 returns-in-Err-clause-said g c =
-    said_unbegun g.E.Write.contents c.args.job c.args.texts.secret.now c.args.notes.is_attended c.args.notes.types_mnemonics c.args.notes.tells_of_none
-    c.in-Err.unready c.unbegun.result c.args.errors.now c.unbegun.new.errors c.in-Err.ensures.refused c.unbegun.ensures.said
+    said_unbegun g.E.Write.contents g.R.Read.remaining c.args.job c.args.texts.secret.now c.args.notes.is_attended c.args.notes.types_mnemonics
+    c.args.notes.tells_of_none c.in-Err.unready c.args.input c.unbegun.result c.args.errors.now c.unbegun.new.errors c.in-Err.ensures.refused
+    c.unbegun.ensures.said
 
 pub returns-then-goes_by_lines-clause-said : goal.returns-then-goes_by_lines-clause-said
 returns-then-goes_by_lines-clause-said g c =
     let run = c.by_lines-finished.result in
-    said_by_work g.E.Write.contents g.R.Read.remaining g.W.Write.contents c.args.job c.args.texts.secret.now c.args.notes.is_attended
-    c.args.notes.types_mnemonics c.args.notes.tells_of_none c.asks.result c.in-Ok.work run.answer c.args.input run.input c.args.output run.output
-    c.answered.result c.args.errors.now c.say_if.new.self c.tell_of_none.new.errors c.answered.new.errors
-    (ready_of_work c.args.job c.args.texts.secret.now c.args.texts.passphrase.now c.in-Ok.work c.in-Ok.ensures.work) c.asks.ensures
-    c.by_lines-finished.ensures c.say_if.ensures.said c.tell_of_none.ensures.said c.answered.ensures.said c.answered.ensures.ends
+    said_by_work g.E.Write.contents g.R.Read.remaining g.W.Write.contents c.args.job c.args.texts.secret.now c.args.texts.passphrase.now
+    c.args.notes.is_attended c.args.notes.types_mnemonics c.args.notes.tells_of_none c.asks.result c.in-Ok.work run.answer c.args.input run.input
+    c.args.output run.output c.answered.result c.args.errors.now c.say_if.new.self c.by_lines-finished.new.errors c.answered.new.errors
+    c.in-Ok.ensures.work c.asks.ensures c.by_lines-finished.ensures.delivers c.say_if.ensures.said c.by_lines-finished.ensures.said
+    c.answered.ensures.said c.answered.ensures.ends
 
 pub returns-in-Some-clause-said : goal.returns-in-Some-clause-said
 returns-in-Some-clause-said g c =
     let run = c.in-Some.finished in
-    said_by_work g.E.Write.contents g.R.Read.remaining g.W.Write.contents c.args.job c.args.texts.secret.now c.args.notes.is_attended
-    c.args.notes.types_mnemonics c.args.notes.tells_of_none c.asks.result c.in-Ok.work run.answer c.args.input run.input c.args.output run.output
-    c.answered-in-Some.result c.args.errors.now c.say_if.new.self c.by_buffer.new.errors c.answered-in-Some.new.errors (ready_of_work c.args.job c.args.texts.secret.now c.args.texts.passphrase.now c.in-Ok.work
-    c.in-Ok.ensures.work) c.asks.ensures c.in-Some.ensures.delivers c.say_if.ensures.said c.in-Some.ensures.said c.answered-in-Some.ensures.said
+    said_by_work g.E.Write.contents g.R.Read.remaining g.W.Write.contents c.args.job c.args.texts.secret.now c.args.texts.passphrase.now
+    c.args.notes.is_attended c.args.notes.types_mnemonics c.args.notes.tells_of_none c.asks.result c.in-Ok.work run.answer c.args.input run.input
+    c.args.output run.output c.answered-in-Some.result c.args.errors.now c.say_if.new.self c.by_buffer.new.errors c.answered-in-Some.new.errors
+    c.in-Ok.ensures.work c.asks.ensures c.in-Some.ensures.delivers c.say_if.ensures.said c.in-Some.ensures.said c.answered-in-Some.ensures.said
     c.answered-in-Some.ensures.ends
 
 pub returns-clause-said : goal.returns-clause-said
 returns-clause-said g c =
-    said_for_memory g.E.Write.contents c.args.job c.args.notes.is_attended c.args.notes.types_mnemonics c.args.notes.tells_of_none c.asks.result c.in-Ok.work c.no_memory_left.result
-    c.args.errors.now c.say_if.new.self c.no_memory_left.new.errors c.asks.ensures c.say_if.ensures.said
+    said_for_memory g.E.Write.contents g.R.Read.remaining c.args.job c.args.notes.is_attended c.args.notes.types_mnemonics c.args.notes.tells_of_none
+    c.asks.result c.in-Ok.work c.args.input c.no_memory_left.result c.args.errors.now c.say_if.new.self c.no_memory_left.new.errors c.asks.ensures
+    c.say_if.ensures.said
     (subst (λ m. Says g.E.Write.contents m c.no_memory_left.new.errors memory_line) c.in-None.ensures.unsaid c.no_memory_left.ensures.said)
     c.no_memory_left.ensures.ends

@@ -1,9 +1,10 @@
-use Rattle.std.proofs.Common.{◌≡◌, ℕ, Bool, Bor, List, map, option_map, subst}
+use Rattle.std.proofs.Common.{◌≡◌, ◌∙◌, ℕ, Bool, Bor, List, map, option_map, subst}
 use Rattle.s39_cli.specs.declared.values.NoValue.TheVariants.{TooLong}
 use Rattle.s39_cli.specs.Said.{IsSaidWithoutJob}
 use Rattle.s39_cli.proofs.Ends.{ends_by_job, ends_typed, ends_unread, ends_without_job}
 use Rattle.s39_cli.proofs.Untouched.{job_untouched, jobless_untouched, typed_untouched, unread_untouched}
-use Rattle.s39_cli.proofs.Said.{said_of_job, said_typed, said_unread, said_without_job, silent_job}
+use Rattle.s39_cli.proofs.Said.{silent_job}
+use Rattle.s39_cli.proofs.SaidOfWords.{said_of_job, said_typed, said_unread, said_without_job}
 use Rattle.s39_cli.proofs.runner.program.Goals as goal
 
 pub returns-in-Err-clause-ends : goal.returns-in-Err-clause-ends
@@ -61,7 +62,8 @@ returns-clause-untouched g c =
 pub returns-in-Err-clause-said : goal.returns-in-Err-clause-said
 returns-in-Err-clause-said g c =
     let words = map (λ (word : Bor (List ℕ)). word.now) c.args.words.now in
-    said_without_job g.E.Write.contents c.args.source c.args.destination words c.args.errors.now c.without_job.new.errors c.in-Err.no_job
+    said_without_job (g.S.Shelf.told c.args.shelf.now) g.R.Read.remaining g.E.Write.contents c.args.source c.args.destination words c.args.input
+    c.args.errors.now c.without_job.new.errors c.in-Err.no_job
     c.without_job.result c.in-Err.ensures.answer c.in-Err.ensures.memory
     (subst (λ (b : Bool). IsSaidWithoutJob g.E.Write.contents b c.in-Err.no_job c.args.errors.now c.without_job.new.errors c.without_job.result)
     c.is_attended-watched.ensures c.without_job.ensures.said)
@@ -69,14 +71,16 @@ returns-in-Err-clause-said g c =
 pub returns-then-is_typed-clause-said : goal.returns-then-is_typed-clause-said
 returns-then-is_typed-clause-said g c =
     let words = map (λ (word : Bor (List ℕ)). word.now) c.args.words.now in
-    said_typed g.E.Write.contents c.args.source c.args.destination words c.args.errors.now c.typed.new.errors c.in-Ok.call c.in-Ok.ensures.call
+    said_typed (g.S.Shelf.told c.args.shelf.now) g.R.Read.remaining g.E.Write.contents c.args.source c.args.destination words c.args.input
+    c.args.errors.now c.typed.new.errors c.in-Ok.call c.in-Ok.ensures.call
     c.in-Ok.ensures.faultless c.typed.result c.args.input c.args.output (c.is_typed.ensures.typed c.if-is_typed.true) c.typed.ensures.ends
     c.typed.ensures.said
 
 pub returns-in-Err-read-clause-said : goal.returns-in-Err-read-clause-said
 returns-in-Err-read-clause-said g c =
     let words = map (λ (word : Bor (List ℕ)). word.now) c.args.words.now in
-    said_unread g.E.Write.contents c.args.source c.args.destination words c.args.errors.now c.without_value.new.errors c.in-Ok.call c.in-Ok.ensures.call
+    said_unread (g.S.Shelf.told c.args.shelf.now) g.R.Read.remaining g.E.Write.contents c.args.source c.args.destination words c.args.input
+    c.args.errors.now c.without_value.new.errors c.in-Ok.call c.in-Ok.ensures.call
     c.in-Ok.ensures.faultless c.of-notes.result.types_passphrase c.say_if.new.self c.in-Err-read.unread.name.now c.without_value.result
     (c.is_typed.ensures.untyped c.if-is_typed.false) c.without_value.ensures.not_begun c.of-notes.ensures.passphrase c.in-Err-read.ensures.named
     c.say_if.ensures.said c.without_value.ensures.said
@@ -85,13 +89,15 @@ pub returns-clause-said : goal.returns-clause-said
 returns-clause-said g c =
     let words = map (λ (word : Bor (List ℕ)). word.now) c.args.words.now in
     let notes = c.of-notes.result in
-    said_of_job g.E.Write.contents c.args.source c.args.destination words c.args.errors.now c.by_job.new.errors c.in-Ok.call c.in-Ok.ensures.call
-    c.in-Ok.ensures.faultless notes.is_attended notes.types_passphrase notes.types_mnemonics notes.tells_of_none c.say_if.new.self
-    c.by_job.result (c.is_typed.ensures.untyped c.if-is_typed.false) c.of-notes.ensures.attended c.of-notes.ensures.passphrase c.of-notes.ensures.mnemonics c.of-notes.ensures.none
-    c.say_if.ensures.said c.by_job.ensures.said
+    said_of_job (g.S.Shelf.told c.args.shelf.now) g.R.Read.remaining g.E.Write.contents c.args.source c.args.destination words c.args.input
+    c.args.errors.now c.by_job.new.errors c.in-Ok.call c.in-Ok.ensures.call
+    c.in-Ok.ensures.faultless notes.is_attended notes.types_passphrase notes.types_mnemonics notes.tells_of_none
+    (option_map (λ held. held.items) c.in-Ok-read.values.secret) (option_map (λ held. held.items) c.in-Ok-read.values.passphrase) c.read.new.input
+    c.say_if.new.self c.by_job.result (c.is_typed.ensures.untyped c.if-is_typed.false) c.in-Ok-read.ensures.values
+    c.of-notes.ensures.attended c.of-notes.ensures.passphrase c.of-notes.ensures.mnemonics c.of-notes.ensures.none c.say_if.ensures.said c.by_job.ensures.said
 
 pub returns-clause-silent : goal.returns-clause-silent
 returns-clause-silent g c =
     let notes = c.of-notes.result in
     silent_job _ notes.types_passphrase notes.types_mnemonics notes.tells_of_none c.by_job.result c.args.errors.now c.say_if.new.self c.by_job.new.errors
-    c.of-notes.ensures.unattended c.say_if.ensures.silent c.by_job.ensures.silent
+    c.of-notes.ensures.unattended c.say_if.ensures.silent (λ away. c.by_job.ensures.silent (c.of-notes.ensures.attended ∙ away))

@@ -1,5 +1,5 @@
-use Rattle.std.proofs.Common.{ℕ, List, Option, refl, subst, sym}
-use Rattle.s39_set.specs.Names.{Names}
+use Rattle.std.proofs.Common.{ℕ, List, refl, subst, sym}
+use Rattle.s39_input.specs.Accepted.{read_as}
 use Rattle.s39_input.specs.Create.{IsCreateOutput}
 use Rattle.s39_drilling.specs.Drill.{IsDrillOutput}
 use Rattle.s39_reading.specs.Recover.{IsRecoverOutput}
@@ -12,7 +12,9 @@ use Rattle.s39_creating.specs.Reissue.{IsReissueOutput}
 use Rattle.s39_creating.specs.Resplit.{IsResplitOutput}
 use Rattle.s39_reading.specs.Status.{IsStatusOutput}
 use Rattle.s39_cli.specs.Outcome.{where_done, without_mismatches}
+use Rattle.s39_cli.specs.Said.{SaysOnceRead, line_if, read_lines, work_input_lines}
 use Rattle.s39_cli.specs.Work.{IsWorkOutput}
+use Rattle.s39_cli.proofs.SaidByRuns.{said_judged, unsaid_work}
 use Rattle.s39_cli.proofs.Works.{Runs-judged}
 use Rattle.s39_cli.proofs.work.Work.run.Goals as goal
 
@@ -60,13 +62,12 @@ returns-in-Recover-clause-runs g c =
 pub returns-in-Drill-clause-runs : goal.returns-in-Drill-clause-runs
 returns-in-Drill-clause-runs g c =
     let drill = c.in-Drill.drill in
-    subst (λ (w : Work). Runs g.R.Read.remaining g.W.Write.contents (IsWorkOutput w) c.args.input.now c.run_drill.new.input c.args.output.now
-    c.run_drill.new.output c.without_mismatches.result) (sym c.in-Drill.is)
+    subst (λ (w : Work). Runs g.R.Read.remaining g.W.Write.contents (IsWorkOutput w) c.args.input.now c.drill_told.new.input c.args.output.now
+    c.drill_told.new.output c.without_mismatches.result) (sym c.in-Drill.is)
     (Runs-judged g.R.Read.remaining g.W.Write.contents without_mismatches (IsDrillOutput drill.form drill.passphrase.now drill.after drill.limit)
-    (IsWorkOutput (work.Drill drill)) c.args.input.now c.run_drill.new.input c.args.output.now c.run_drill.new.output c.run_drill.result
+    (IsWorkOutput (work.Drill drill)) c.args.input.now c.drill_told.new.input c.args.output.now c.drill_told.new.output c.drill_told.result
     c.without_mismatches.result
-    (subst (λ (after : Option Names). Runs g.R.Read.remaining g.W.Write.contents (IsDrillOutput drill.form drill.passphrase.now after drill.limit)
-    c.args.input.now c.run_drill.new.input c.args.output.now c.run_drill.new.output c.run_drill.result) c.as_ref.ensures.value c.run_drill.ensures.runs)
+    c.drill_told.ensures.runs
     c.without_mismatches.ensures (λ input text full output. (full, output, refl)))
 
 pub returns-in-Status-clause-runs : goal.returns-in-Status-clause-runs
@@ -101,3 +102,54 @@ returns-in-Resplit-clause-runs g c =
     (IsResplitOutput resplit.plan.group_threshold resplit.plan.groups.items resplit.random.now) (IsWorkOutput (work.Resplit resplit)) c.args.input.now
     c.run_resplit.new.input c.args.output.now c.run_resplit.new.output c.run_resplit.result c.where_done-in-Resplit.result
     c.run_resplit.ensures.runs c.where_done-in-Resplit.ensures (λ input text full output. (full, output, refl)))
+
+-- ---- what is said
+
+pub returns-in-Show-clause-said : goal.returns-in-Show-clause-said
+returns-in-Show-clause-said g c =
+    unsaid_work g.R.Read.remaining g.E.Write.contents c.args.input.now.device c.args.self.now work.Show c.args.is_attended c.where_done.result c.args.errors.now
+    c.in-Show.is (λ _. refl)
+
+pub returns-in-Create-clause-said : goal.returns-in-Create-clause-said
+returns-in-Create-clause-said g c =
+    unsaid_work g.R.Read.remaining g.E.Write.contents c.args.input.now.device
+    c.args.self.now (work.Create c.in-Create.creation) c.args.is_attended c.where_done-in-Create.result c.args.errors.now
+    c.in-Create.is (λ _. refl)
+
+pub returns-in-Recover-clause-said : goal.returns-in-Recover-clause-said
+returns-in-Recover-clause-said g c =
+    unsaid_work g.R.Read.remaining g.E.Write.contents c.args.input.now.device
+    c.args.self.now (work.Recover c.in-Recover.passphrase c.in-Recover.form c.in-Recover.expected) c.args.is_attended
+    c.where_done-in-Recover.result c.args.errors.now c.in-Recover.is (λ _. refl)
+
+pub returns-in-Status-clause-said : goal.returns-in-Status-clause-said
+returns-in-Status-clause-said g c =
+    unsaid_work g.R.Read.remaining g.E.Write.contents c.args.input.now.device
+    c.args.self.now work.Status c.args.is_attended c.with_enough.result c.args.errors.now
+    c.in-Status.is (λ _. refl)
+
+pub returns-in-Reissue-clause-said : goal.returns-in-Reissue-clause-said
+returns-in-Reissue-clause-said g c =
+    unsaid_work g.R.Read.remaining g.E.Write.contents c.args.input.now.device
+    c.args.self.now (work.Reissue c.in-Reissue.reissue) c.args.is_attended c.where_done-in-Reissue.result c.args.errors.now
+    c.in-Reissue.is (λ _. refl)
+
+pub returns-in-Repair-clause-said : goal.returns-in-Repair-clause-said
+returns-in-Repair-clause-said g c =
+    unsaid_work g.R.Read.remaining g.E.Write.contents c.args.input.now.device
+    c.args.self.now work.Repair c.args.is_attended c.run_repair.result c.args.errors.now
+    c.in-Repair.is (λ _. refl)
+
+pub returns-in-Resplit-clause-said : goal.returns-in-Resplit-clause-said
+returns-in-Resplit-clause-said g c =
+    unsaid_work g.R.Read.remaining g.E.Write.contents c.args.input.now.device
+    c.args.self.now (work.Resplit c.in-Resplit.resplit) c.args.is_attended c.where_done-in-Resplit.result c.args.errors.now
+    c.in-Resplit.is (λ _. refl)
+
+pub returns-in-Drill-clause-said : goal.returns-in-Drill-clause-said
+returns-in-Drill-clause-said g c =
+    subst (λ (w : Work). SaysOnceRead g.R.Read.remaining g.E.Write.contents (λ input. line_if c.args.is_attended (work_input_lines w input))
+    c.args.input.now.device c.without_mismatches.result c.args.errors.now c.drill_told.new.errors) (sym c.in-Drill.is)
+    (said_judged g.R.Read.remaining g.E.Write.contents c.args.input.now.device without_mismatches
+    (λ input. line_if c.args.is_attended (read_lines (read_as input))) c.drill_told.result c.without_mismatches.result c.args.errors.now
+    c.drill_told.new.errors c.without_mismatches.ensures c.drill_told.ensures.said)

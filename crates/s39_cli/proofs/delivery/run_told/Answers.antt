@@ -1,0 +1,7 @@
+use Rattle.s39_cli.proofs.SaidByRuns.{said_both}
+use Rattle.s39_cli.proofs.delivery.run_told.Goals as goal
+
+pub returns-clause-said : goal.returns-clause-said
+returns-clause-said g c =
+    said_both g.R.Read.remaining g.E.Write.contents c.args.input.now.device c.args.work.now c.args.notes.is_attended c.args.notes.tells_of_none
+    c.run-answer.result c.args.errors.now c.run-answer.new.errors c.tell_of_none.new.errors c.run-answer.ensures.said c.tell_of_none.ensures.said
