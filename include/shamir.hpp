@@ -3,13 +3,16 @@
  * which order it refuses. Link with the library as a program in C does. docs/LIBRARY.md has a first call.
  *
  * A text is a std::string_view (Text), and bytes are a view too (Bytes), to which arrays and vectors of std::uint8_t convert. Options
- * are structs, whose fields have the defaults of the command shamir. They hold views, so what they look at must live as long.
+ * are structs, whose fields have the defaults of the command shamir. They hold views, so what they look at must live until the call
+ * returns: "options.expected = *shamir::fingerprint(secret);" looks at a text that is gone.
  *
- * A call gives an Answer: its value, or the Refusal of the library. What it gives is in memory that is cleared before it is freed:
- * a Secret, or Mnemonics. Outputs of the library are cleared too. What you copy out of them isn't.
+ * A call gives an Answer: its value, or the Refusal of the library. Secrets and mnemonics are in memory that is cleared before it is
+ * freed: a Secret, or Mnemonics. So are the buffers into which the library writes them. What you copy out of them isn't. An Answer
+ * without a name ends with its statement: give it a name before you take lines() or a part of its value.
  *
- * The layer throws Refused if you take the value of a refused answer, std::invalid_argument for a line feed inside a line and for
- * options that can't stand together, and what the standard library throws if there is no memory.
+ * The layer throws Refused if you take the value of a refused answer, std::bad_variant_access if you take the refusal of another one,
+ * std::invalid_argument for a line feed inside a line and for options that can't stand together, and what the standard library throws
+ * if there is no memory. It is tested, and not proved.
  */
 #ifndef SHAMIR_HPP
 #define SHAMIR_HPP
@@ -231,7 +234,7 @@ public:
         }
     }
 
-    /* Adds one line, which may end with a line feed. */
+    /* Adds one line, which may end with a line feed, and isn't a line of this object. */
     void add(Text line)
     {
         line.remove_suffix(!line.empty() && line.back() == '\n');
@@ -244,7 +247,7 @@ public:
 
     operator Text() const noexcept { return detail::text_of(text_); }
 
-    /* The lines, without their line feeds. They belong to this object. */
+    /* The lines, without their line feeds. They belong to this object, until a line is added. */
     std::vector<Text> lines() const & { return detail::parts(*this, '\n'); }
     std::vector<Text> lines() && = delete;
 
@@ -337,7 +340,7 @@ struct Outcome {
     std::optional<unsigned> mismatch;
 };
 
-/* How many quorums a drill has listed, and how many the mnemonics have. */
+/* How many quorums this drill has listed, also if it began after some, and how many the mnemonics have. */
 struct Progress {
     std::uint64_t listed;
     std::uint64_t quorums;
@@ -401,7 +404,8 @@ template <class Draw> Secret drawn(std::uint64_t count, Draw &draw)
 
 } // namespace detail
 
-/* Creates a backup. draw(bytes, count) fills this many bytes with unpredictable ones, or throws. */
+/* Creates a backup. draw(bytes, count) fills this many bytes with unpredictable ones, or throws. What it returns isn't looked at, so
+   don't give a function such as getentropy, which returns whether it failed. */
 template <class Draw, class = detail::IfDraws<Draw>>
 Answer<Mnemonics> create(Text plan, Bytes secret, const CreateOptions &options, Draw &&draw)
 {

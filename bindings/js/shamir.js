@@ -19,14 +19,14 @@
  * Each method passes its arguments to the engine, and throws a `Refusal` if the engine refuses them. A text is a string, which
  * is encoded as UTF-8, or a Uint8Array. A secret and random bytes are a Uint8Array. Another type, an option that the call
  * doesn't know, options that are inherited, two options that can't stand together, and an array whose buffer was transferred throw a
- * TypeError. A number out
- * of range, a string that UTF-8 can't encode, and a line feed inside a line of a list throw a RangeError. If random bytes are left
- * out and the host has no `crypto`, `create` and `resplit` throw an Error.
+ * TypeError. A number out of range, a string that UTF-8 can't encode, and a line feed inside a line of a list throw a RangeError. If
+ * random bytes are left out and the host has no `crypto`, `create` and `resplit` throw an Error.
  *
  * Arguments are copied into the memory of the module. After each call, also after a refusal, everything that the call may have
  * written there is cleared, and so are the copies of the arguments. If a call traps, the whole memory is cleared. The next call
- * then uses a new instance of the module, as it does after one that needed more than 4 MiB. JavaScript can't clear strings. So if no secret may stay in memory, pass texts as
- * Uint8Array, use `createBytes`, `reissueBytes`, `resplitBytes` and `repairBytes`, and clear these arrays after use.
+ * then uses a new instance of the module, as it does after one that needed more than 4 MiB. JavaScript can't clear strings. So if no
+ * secret may stay in memory, pass texts as Uint8Array, use `createBytes`, `reissueBytes`, `resplitBytes` and `repairBytes`, and clear
+ * these arrays after use.
  */
 import { ANSWER_BYTES, Calls, Room, Struct } from "./calls.js";
 import { Copies, copied, flag, known, wholeNumber, withCopies } from "./copies.js";

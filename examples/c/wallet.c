@@ -6,6 +6,9 @@
  *     ./wallet recover PASSPHRASE FINGERPRINT
  *     ./wallet drill PASSPHRASE FINGERPRINT FILE      # Ctrl-C stops it
  *     ./wallet repair
+ *
+ * To stay short, it takes the passphrase as a word of the command, which ps shows, and streams keep copies of papers.
+ * A wallet asks for the passphrase, and recover.c shows how a stream keeps no copy.
  */
 #include <signal.h>
 #include <stdio.h>

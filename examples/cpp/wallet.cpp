@@ -6,6 +6,9 @@
  *     ./wallet recover PASSPHRASE FINGERPRINT
  *     ./wallet drill PASSPHRASE FINGERPRINT FILE      # Ctrl-C stops it
  *     ./wallet repair
+ *
+ * To stay short, it takes the passphrase as a word of the command, which ps shows, and reads papers into strings and
+ * streams, which keep copies. A wallet asks for the passphrase, and clears what it reads with shamir_wipe.
  */
 #include <csignal>
 #include <fstream>

@@ -5,6 +5,9 @@
  *     node wallet.js recover PASSPHRASE FINGERPRINT
  *     node wallet.js drill PASSPHRASE FINGERPRINT FILE      # Ctrl-C stops it
  *     node wallet.js repair
+ *
+ * It needs shamir32.wasm beside the files of the package. To stay short, it takes the passphrase as a word of the command, which `ps`
+ * shows, and clears nothing. A wallet asks for the passphrase. The head of shamir.js says how to keep secrets out of strings.
  */
 import { readFile } from "node:fs/promises";
 import { createInterface } from "node:readline";

@@ -4,6 +4,9 @@
     python3 wallet.py recover PASSPHRASE FINGERPRINT
     python3 wallet.py drill PASSPHRASE FINGERPRINT FILE      # Ctrl-C stops it
     python3 wallet.py repair
+
+To stay short, it takes the passphrase as a word of the command, which `ps` shows, and clears nothing. A wallet asks for the passphrase,
+and uses `recover_into` and bytearrays.
 """
 import os
 import signal

@@ -6,6 +6,9 @@
 //! cargo run --example wallet drill PASSPHRASE FINGERPRINT FILE      # Enter stops it
 //! cargo run --example wallet repair
 //! ```
+//!
+//! To stay short, it takes the passphrase as a word of the command, which `ps` shows, and keeps papers in a `String`, which isn't cleared.
+//! A wallet asks for the passphrase, and keeps papers in `Mnemonics`.
 use shamir::{CreateOptions, Drill, Error, Found, Plan, RecoverOptions, Secret};
 use std::sync::atomic::{AtomicBool, Ordering};
 use std::{fs::File, io, io::Read};
