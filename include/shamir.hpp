@@ -393,7 +393,7 @@ inline Answer<Mnemonics> create(Text plan, Bytes secret, const CreateOptions &op
 
 namespace detail {
 
-template <class Draw> using IfDraws = std::enable_if_t<std::is_invocable_v<Draw &, std::uint8_t *, std::size_t>>;
+template <class Draw> using IfDraws = std::enable_if_t<std::is_void_v<std::invoke_result_t<Draw &, std::uint8_t *, std::size_t>>>;
 
 template <class Draw> Secret drawn(std::uint64_t count, Draw &draw)
 {
@@ -404,8 +404,8 @@ template <class Draw> Secret drawn(std::uint64_t count, Draw &draw)
 
 } // namespace detail
 
-/* Creates a backup. draw(bytes, count) fills this many bytes with unpredictable ones, or throws. What it returns isn't looked at, so
-   don't give a function such as getentropy, which returns whether it failed. */
+/* Creates a backup. draw(bytes, count) fills this many bytes with unpredictable ones, or throws. It returns nothing, so a compiler
+   refuses a function such as getentropy, which returns whether it failed. */
 template <class Draw, class = detail::IfDraws<Draw>>
 Answer<Mnemonics> create(Text plan, Bytes secret, const CreateOptions &options, Draw &&draw)
 {

@@ -37,6 +37,7 @@ MISUSED = {
     "a secret that is taken for a text": "shamir::recover(shamir::Secret(16))",
     "an answer that nobody looks at": '(shamir::recover("academic"), 0)',
     "lines of mnemonics that are gone": "shamir::Mnemonics().lines()",
+    "a source whose failure nobody looks at": 'shamir::resplit("1of1", "academic", [](void *, std::size_t) { return -1; })',
 }
 # A cursor or names that aren't written in this form can't be given as pairs.
 NAMES = re.compile(r"(?:(?:0|[1-9]\d{0,8})\.(?:0|[1-9]\d{0,8})(?:\+(?!$)|$))*")
