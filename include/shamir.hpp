@@ -8,7 +8,7 @@
  *
  * A call gives an Answer: its value, or the Refusal of the library. Secrets and mnemonics are in memory that is cleared before it is
  * freed: a Secret, or Mnemonics. So are the buffers into which the library writes them. What you copy out of them isn't. An Answer
- * without a name ends with its statement: give it a name before you take lines() or a part of its value.
+ * without a name gives its value away, and has no ->, because its value would end with the statement.
  *
  * The layer throws Refused if you take the value of a refused answer, std::bad_variant_access if you take the refusal of another one,
  * std::invalid_argument for a line feed inside a line and for options that can't stand together, and what the standard library throws
@@ -122,16 +122,17 @@ public:
 
     explicit operator bool() const noexcept { return held_.index() == 0; }
     bool has_value() const noexcept { return held_.index() == 0; }
-    const Refusal &error() const { return std::get<1>(held_); }
+    Refusal error() const { return std::get<1>(held_); }
 
     const Value &value() const & { return checked(), std::get<0>(held_); }
     Value &value() & { return checked(), std::get<0>(held_); }
-    Value &&value() && { return checked(), std::get<0>(std::move(held_)); }
+    Value value() && { return checked(), std::get<0>(std::move(held_)); }
     const Value &operator*() const & { return value(); }
     Value &operator*() & { return value(); }
-    Value &&operator*() && { return std::move(*this).value(); }
-    const Value *operator->() const { return &value(); }
-    Value *operator->() { return &value(); }
+    Value operator*() && { return std::move(*this).value(); }
+    const Value *operator->() const & { return &value(); }
+    Value *operator->() & { return &value(); }
+    const Value *operator->() const && = delete;
 
 private:
     void checked() const

@@ -37,6 +37,7 @@ MISUSED = {
     "a secret that is taken for a text": "shamir::recover(shamir::Secret(16))",
     "an answer that nobody looks at": '(shamir::recover("academic"), 0)',
     "lines of mnemonics that are gone": "shamir::Mnemonics().lines()",
+    "lines of an answer that is gone": 'shamir::repair("academic ?")->lines()',
     "a source whose failure nobody looks at": 'shamir::resplit("1of1", "academic", [](void *, std::size_t) { return -1; })',
 }
 # A cursor or names that aren't written in this form can't be given as pairs.
