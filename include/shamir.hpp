@@ -3,8 +3,8 @@
  * which order it refuses. Link with the library as a program in C does. docs/LIBRARY.md has a first call.
  *
  * A text is a std::string_view (Text), and bytes are a view too (Bytes), to which arrays and vectors of std::uint8_t convert. Options
- * are structs, whose fields have the defaults of the command shamir. They hold views, so what they look at must live until the call
- * returns: "options.expected = *shamir::fingerprint(secret);" looks at a text that is gone.
+ * are structs, whose fields have the defaults of the command shamir. Their passphrase is a view, so the text of it must live until the
+ * call returns. An expected fingerprint is a string of their own.
  *
  * A call gives an Answer: its value, or the Refusal of the library. Secrets and mnemonics are in memory that is cleared before it is
  * freed: a Secret, or Mnemonics. So are the buffers into which the library writes them. What you copy out of them isn't. An Answer
@@ -217,9 +217,9 @@ template <class Unit, class Call> Answer<Cleared<Unit>> written(std::size_t room
 inline Text text_of(const Cleared<char> &text) { return {text.data(), text.size()}; }
 
 /* The library compares nothing if it gets an empty fingerprint. One that is given and empty becomes a text that it refuses. */
-inline Text fingerprint_of(const std::optional<Text> &expected)
+inline Text fingerprint_of(const std::optional<std::string> &expected)
 {
-    return !expected ? Text() : expected->empty() ? Text("-") : *expected;
+    return !expected ? Text() : expected->empty() ? Text("-") : Text(*expected);
 }
 
 } // namespace detail
@@ -308,12 +308,12 @@ struct CreateOptions {
 /* If a fingerprint is expected, a secret with another one is refused (52). */
 struct DecryptOptions {
     Text passphrase = {};
-    std::optional<Text> expected = {};
+    std::optional<std::string> expected = {};
 };
 
 struct RecoverOptions {
     Text passphrase = {};
-    std::optional<Text> expected = {};
+    std::optional<std::string> expected = {};
     std::uint32_t max_exponent = SHAMIR_EXPONENT_MAX;
 };
 
@@ -324,7 +324,7 @@ struct RecoverOptions {
  */
 struct DrillOptions {
     Text passphrase = {};
-    std::optional<Text> expected = {};
+    std::optional<std::string> expected = {};
     bool fingerprints = false;
     std::uint32_t max_exponent = SHAMIR_EXPONENT_MAX;
     Names after = {};

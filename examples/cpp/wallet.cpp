@@ -68,7 +68,7 @@ static void recover(shamir::Text passphrase, shamir::Text noted) {
         std::cout << now.str();
         before = now.str(), papers = std::move(more);
         if (status->enough()) {
-            const shamir::Secret secret = *shamir::recover(papers, {passphrase, noted});
+            const shamir::Secret secret = *shamir::recover(papers, {passphrase, std::string(noted)});
             std::cout << "fingerprint " << *shamir::fingerprint(secret) << "\n";
             return;
         }

@@ -44,8 +44,6 @@ Value value(const std::string &word)
 
 shamir::Bytes bytes(const Value &it) { return {reinterpret_cast<const std::uint8_t *>(it->data()), it->size()}; }
 
-std::optional<shamir::Text> expected(const Value &it) { return it ? std::optional<shamir::Text>(*it) : std::nullopt; }
-
 std::uint32_t number(const Value &it) { return static_cast<std::uint32_t>(std::stoul(*it)); }
 
 /* Gives a text of the value of an answer, or its refusal. */
@@ -99,7 +97,7 @@ Output recover(const Values &given)
 {
     shamir::RecoverOptions options;
     options.passphrase = *given[0];
-    options.expected = expected(given[1]);
+    options.expected = given[1];
     const auto secret = shamir::recover(*given[3], options);
     if (given[2]->empty()) {
         return digits(secret);
@@ -122,7 +120,7 @@ Output decrypt(const Values &given)
     secret.extendable = !given[1]->empty();
     secret.exponent = static_cast<std::uint8_t>(number(given[2]));
     secret.value.assign(bytes(given[5]).data(), bytes(given[5]).data() + given[5]->size());
-    return digits(shamir::decrypt(secret, {*given[3], expected(given[4])}));
+    return digits(shamir::decrypt(secret, {*given[3], given[4]}));
 }
 
 std::string found(const shamir::Outcome &outcome)
@@ -145,7 +143,7 @@ Output drill(const Values &given)
     shamir::DrillOptions options;
     options.passphrase = *given[0];
     options.after = given[1] ? shamir::detail::names(*given[1]) : shamir::Names();
-    options.expected = expected(given[2]);
+    options.expected = given[2];
     options.fingerprints = !given[4]->empty();
     options.at_once = 20;
     std::string listed, last;
