@@ -235,15 +235,16 @@ public:
         }
     }
 
-    /* Adds one line, which may end with a line feed, and isn't a line of this object. */
+    /* Adds one line, which may end with a line feed. If there is no memory, nothing is added. */
     void add(Text line)
     {
         line.remove_suffix(!line.empty() && line.back() == '\n');
         if (line.find('\n') != Text::npos) {
             throw std::invalid_argument("a line holds a line feed, so it is several lines");
         }
-        text_.insert(text_.end(), line.begin(), line.end());
-        text_.push_back('\n');
+        Cleared<char> added(line.begin(), line.end());
+        added.push_back('\n');
+        text_.insert(text_.end(), added.begin(), added.end());
     }
 
     operator Text() const noexcept { return detail::text_of(text_); }
@@ -354,10 +355,14 @@ struct Drilled {
 };
 
 /* The version of the library. */
-inline std::string version()
+inline Answer<std::string> version()
 {
     char room[SHAMIR_TEXT_BYTES_MAX];
-    return std::string(room, detail::size_of(shamir_version(room, sizeof room).written));
+    const shamir_answer answer = shamir_version(room, sizeof room);
+    if (answer.code != SHAMIR_DONE) {
+        return Refusal(answer);
+    }
+    return std::string(room, detail::size_of(answer.written));
 }
 
 inline Answer<Share> parse(Text line)
@@ -495,9 +500,11 @@ inline Answer<Mnemonics> resplit(Text plan, Text lines, Bytes random)
 template <class Draw, class = detail::IfDraws<Draw>> Answer<Mnemonics> resplit(Text plan, Text lines, Draw &&draw)
 {
     const auto needed = shamir_resplit(plan.data(), plan.size(), lines.data(), lines.size(), nullptr, 0, nullptr, 0);
-    const std::uint64_t count = needed.code == SHAMIR_E_RANDOM_LENGTH ? needed.first : 0;
+    if (needed.code != SHAMIR_E_RANDOM_LENGTH) {
+        return Refusal(needed);
+    }
     for (int draws = 1;; draws++) {
-        auto made = resplit(plan, lines, Bytes(detail::drawn(count, draw)));
+        auto made = resplit(plan, lines, Bytes(detail::drawn(needed.first, draw)));
         if (made || made.error().code != SHAMIR_E_SAME_IDENTIFIER || draws == 10) {
             return made;
         }
@@ -523,12 +530,16 @@ inline Answer<std::string> fingerprint(Bytes secret)
 }
 
 /* Gives the words of the word list that begin with these letters. */
-inline std::vector<std::string> words(Text letters)
+inline Answer<std::vector<std::string>> words(Text letters)
 {
-    Cleared<char> room(SHAMIR_WORDS_BYTES_MAX);
-    const shamir_answer answer = shamir_words(letters.data(), letters.size(), room.data(), room.size());
-    const auto found = detail::parts(Text(room.data(), detail::size_of(answer.written)), '\n');
-    return {found.begin(), found.end()};
+    const auto text = detail::written<char>(SHAMIR_WORDS_BYTES_MAX, [&](char *room, std::size_t size) {
+        return shamir_words(letters.data(), letters.size(), room, size);
+    });
+    if (!text) {
+        return text.error();
+    }
+    const auto found = detail::parts(detail::text_of(*text), '\n');
+    return std::vector<std::string>(found.begin(), found.end());
 }
 
 namespace detail {
@@ -585,7 +596,11 @@ template <class Each> Answer<Drilled> drill(Text lines, const DrillOptions &opti
             return Refusal(answer);
         }
         if (progress.listed == 0) {
-            progress.quorums = *quorums(lines);
+            const auto counted = quorums(lines);
+            if (!counted) {
+                return counted.error();
+            }
+            progress.quorums = *counted;
         }
         for (const Text line : detail::parts(Text(room.data(), detail::size_of(answer.second)), '\n')) {
             const Outcome outcome = detail::outcome(line, options.fingerprints);

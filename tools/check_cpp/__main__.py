@@ -30,7 +30,9 @@ compare = module.compare
 HEADERS = ROOT / "include"
 COMPILERS = {"g++": "gcc", "clang++": "clang"}
 STRICT = ["-Wall", "-Wextra", "-Wpedantic", "-Wshadow", "-Wconversion", "-Wsign-conversion", "-Werror", f"-I{HEADERS}"]
-SANITIZED = ["-fsanitize=address,undefined", "-fno-sanitize-recover=all"]
+SANITIZED = ["-fsanitize=address,undefined", "-fno-sanitize-recover=all", "-D_GLIBCXX_DEBUG"]
+# The library as plain C takes its memory from the tests, which can refuse it.
+MEMORY = ["-include", "stdlib.h", "-DSHAMIR_ALLOCATE(bytes)=({ extern void *given_block(size_t); given_block(bytes); })", "-DSHAMIR_RELEASE(block)=free(block)"]
 # A misuse that a compiler must refuse.
 MISUSED = {
     "a text that is taken for a secret": 'shamir::fingerprint("0123456789abcdef")',
@@ -73,7 +75,7 @@ def check_misuse(compiler):
 def check_compiler(compiler, folder):
     """Runs the tests over both libraries."""
     portable = f"{folder}/{compiler}.o"
-    run([COMPILERS[compiler], "-O0", "-c", str(ROOT / "dist" / "c" / "shamir.c"), "-o", portable])
+    run([COMPILERS[compiler], "-O0", *MEMORY, "-c", str(ROOT / "dist" / "c" / "shamir.c"), "-o", portable])
     for standard, flags, library in [("c++17", SANITIZED, ROOT / "libshamir.a"), ("c++20", ["-O2"], portable)]:
         program = f"{folder}/tests-{compiler}-{standard}"
         run([compiler, f"-std={standard}", *STRICT, *flags, str(HERE / "tests.cpp"), str(library), "-o", program])

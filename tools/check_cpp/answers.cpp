@@ -178,11 +178,13 @@ Output repair(const Values &given) { return lines(shamir::repair(*given[0])); }
 
 Output words(const Values &given)
 {
-    std::string text;
-    for (const std::string &word : shamir::words(*given[0])) {
-        text += word + "\n";
-    }
-    return text;
+    return told(shamir::words(*given[0]), [](const auto &found) {
+        std::string text;
+        for (const std::string &word : found) {
+            text += word + "\n";
+        }
+        return text;
+    });
 }
 
 const std::map<std::string, Output (*)(const Values &)> commands = {

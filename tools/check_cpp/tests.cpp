@@ -3,6 +3,7 @@
  * The values come from the published vectors and from other programs. tools/check_cpp runs it. It prints each difference.
  */
 #include <array>
+#include <climits>
 #include <cstdio>
 #include <cstdlib>
 #include <cstring>
@@ -42,6 +43,9 @@ void expect(const char *what, bool is_right)
     }
 }
 
+/* How many more blocks of memory the tests get, and the library as plain C. */
+int blocks = INT_MAX, given = INT_MAX;
+
 /* While this is set, memory that is freed is looked at. It counts the blocks with the beginning of the secret or of a mnemonic. */
 bool looks;
 int left;
@@ -78,6 +82,24 @@ void count_up(std::uint8_t *bytes, std::size_t count)
     }
 }
 
+/* A line that is added may be one of the object, and isn't added in part. */
+void check_lines()
+{
+    shamir::Mnemonics held = papers({0});
+    held.add(held.lines()[0]);
+    expect("a line that is there", shamir::Text(held) == shamir::Text(papers({0, 0})));
+    shamir::Mnemonics one;
+    for (int enough = 0; shamir::Text(one).empty(); enough++) {
+        blocks = enough;
+        try {
+            one.add(lines[0]);
+        } catch (const std::bad_alloc &) {
+        }
+        blocks = INT_MAX;
+    }
+    expect("a line that is added without memory", shamir::Text(one) == shamir::Text(papers({0})));
+}
+
 void check_creation()
 {
     shamir::CreateOptions options;
@@ -96,6 +118,8 @@ void check_creation()
         std::copy_n(draws++ ? drawn + 2 : drawn, count, bytes);
     });
     expect("resplit", split && shamir::Text(*split) == anew && draws == 2);
+    const auto nothing = [](std::uint8_t *, std::size_t) { throw std::logic_error("a refused plan takes no random bytes"); };
+    expect("resplit with a wrong plan", shamir::resplit("no plan", extendable, nothing).error().code == SHAMIR_E_BAD_PLAN);
 }
 
 void check_recovery()
@@ -131,9 +155,25 @@ void check_reading()
     expect("reissue", shamir::Text(*shamir::reissue(plan, {{0, 2}, {2, 0}}, papers({0, 1, 4}))) == shamir::Text(papers({2, 4})));
     shamir::Text unread = lines[0].substr(0, lines[0].rfind(' ') + 1);
     expect("repair", shamir::Text(*shamir::repair(std::string(unread) + "?")) == shamir::Text(papers({0})));
-    expect("words", shamir::words("aca") == std::vector<std::string>{"academic"} && shamir::words("xx").empty());
-    expect("version", shamir::version() == SHAMIR_VERSION);
+    expect("words", *shamir::words("aca") == std::vector<std::string>{"academic"} && (*shamir::words("xx")).empty());
+    expect("version", *shamir::version() == SHAMIR_VERSION);
     expect("names", shamir::to_text({{0, 2}, {0, 10}}) == "0.2+0.10" && shamir::Name{0, 2} < shamir::Name{0, 10});
+}
+
+/* If there is no memory for a call, its answer says so. Only the library as plain C takes any. */
+void check_no_memory()
+{
+    const int before = given;
+    if (shamir::version() && given == before) {
+        return;
+    }
+    const auto is_refused = [](const auto &answer) { return !answer && answer.error().code == SHAMIR_E_NO_MEMORY; };
+    given = 0;
+    expect("a version without memory", is_refused(shamir::version()));
+    expect("words without memory", is_refused(shamir::words("aca")));
+    given = 1;
+    expect("a count of quorums without memory", is_refused(shamir::drill(papers({3, 4}), {}, [](const auto &, const auto &) { return true; })));
+    given = before;
 }
 
 /* Refusals say what the command shamir says, and the value of one can't be taken. */
@@ -219,10 +259,12 @@ void check_memory()
 
 } // namespace
 
+extern "C" void *given_block(std::size_t size) { return given-- > 0 ? std::malloc(size) : nullptr; }
+
 /* If these were inlined, gcc would warn of a block of malloc that delete frees. */
 [[gnu::noinline]] void *operator new(std::size_t size)
 {
-    void *block = std::malloc(size ? size : 1);
+    void *block = blocks-- > 0 ? std::malloc(size ? size : 1) : nullptr;
     return block ? block : throw std::bad_alloc();
 }
 
@@ -241,9 +283,11 @@ void operator delete(void *block, std::size_t) noexcept { operator delete(block)
 
 int main()
 {
+    check_lines();
     check_creation();
     check_recovery();
     check_reading();
+    check_no_memory();
     check_refusals();
     check_drill();
     check_memory();
