@@ -1,14 +1,15 @@
 /*
- * Four clients of the library. Papers are lines of standard input, or of a file, and FINGERPRINT is what `make` told.
+ * Four clients of the library. The first line of standard input is the passphrase, except for `repair`. Papers are the
+ * lines after it, or those of a file. FINGERPRINT is what `make` told.
  *
  *     cc -Iinclude examples/c/wallet.c libshamir.a -o wallet
- *     ./wallet make PLAN PASSPHRASE
- *     ./wallet recover PASSPHRASE FINGERPRINT
- *     ./wallet drill PASSPHRASE FINGERPRINT FILE      # Ctrl-C stops it
+ *     ./wallet make PLAN
+ *     ./wallet recover FINGERPRINT
+ *     ./wallet drill FINGERPRINT FILE      # Ctrl-C stops it
  *     ./wallet repair
  *
- * To stay short, it takes the passphrase as a word of the command, which ps shows, and streams keep copies of papers.
- * A wallet asks for the passphrase, and recover.c shows how a stream keeps no copy.
+ * To stay short, it shows what is typed, and streams keep copies of what they read. A wallet hides the passphrase, and
+ * recover.c shows how a stream keeps no copy.
  */
 #include <signal.h>
 #include <stdio.h>
@@ -20,7 +21,7 @@
 static uint8_t secret[SHAMIR_SECRET_BYTES_MAX], drawn[SHAMIR_RANDOM_BYTES_MAX];
 static char papers[2 * SHAMIR_MNEMONICS_BYTES_MAX], text[SHAMIR_MNEMONICS_BYTES_MAX],
     before[SHAMIR_STATUS_BYTES_MAX + 1];
-static char after[SHAMIR_NAMES_BYTES_MAX + 1] = "none";
+static char after[SHAMIR_NAMES_BYTES_MAX + 1] = "none", first[SHAMIR_LINE_BYTES_MAX + 2];
 static volatile sig_atomic_t stopped;
 
 static void stop(int signal_number) {
@@ -28,16 +29,28 @@ static void stop(int signal_number) {
     stopped = 1;
 }
 
+static int fail(const char *why) {
+    fprintf(stderr, "%s\n", why);
+    return 1;
+}
+
+/* Reads the first line, without its line feed. Returns whether it is there, and isn't too long. */
+static int read_line(void) {
+    return fgets(first, sizeof first, stdin) &&
+           (first[strcspn(first, "\n")] = 0, strlen(first)) <= SHAMIR_LINE_BYTES_MAX;
+}
+
 /* Says what is wrong, and what to do. Returns the status of the program. */
 static int told(FILE *out, const shamir_answer *answer) {
     size_t bytes = (size_t)shamir_text(answer, text, sizeof text).written;
 
     fprintf(out, "%u %.*s%s\n", (unsigned)answer->code, (int)bytes, text,
-            answer->code == 13   ? ": put ? for the words that can't be read, and repair the line"
-            : answer->code == 18 ? ": read this word again"
-            : answer->code == 51 ? ": a paper isn't of this backup, or was changed: drill all papers"
-            : answer->code == 52 ? ": the passphrase is another one, or the papers are"
-                                 : "");
+            answer->code == SHAMIR_E_BAD_CHECKSUM ? ": put ? for the words that can't be read, and repair the line"
+            : answer->code == SHAMIR_E_WRONG_WORD ? ": read this word again"
+            : answer->code == SHAMIR_E_DIGEST_MISMATCH
+                ? ": a paper isn't of this backup, or was changed: drill all papers"
+            : answer->code == SHAMIR_E_OTHER_SECRET ? ": the passphrase is another one, or the papers are"
+                                                    : "");
     return 1;
 }
 
@@ -45,20 +58,20 @@ static int fingerprint(const char *before_it, size_t secret_bytes) {
     char digits[SHAMIR_FINGERPRINT_BYTES_MAX];
     shamir_answer answer = shamir_fingerprint(secret, secret_bytes, digits, sizeof digits);
 
-    printf("%sfingerprint %.*s\n", before_it, (int)answer.written, digits);
-    return answer.code != SHAMIR_DONE;
+    return answer.code != SHAMIR_DONE ? told(stderr, &answer)
+                                      : printf("%sfingerprint %.*s\n", before_it, (int)answer.written, digits) < 0;
 }
 
-static int make(const char *plan, const char *passphrase) {
+static int make(const char *plan) {
     shamir_answer answer = shamir_random_needed(plan, strlen(plan), 16);
     size_t needed = (size_t)answer.first;
 
     if (answer.code != SHAMIR_DONE)
         return told(stderr, &answer);
     if (getrandom(secret, 16, 0) != 16 || getrandom(drawn, needed, 0) != (ssize_t)needed)
-        return 2;
-    answer = shamir_create(plan, strlen(plan), secret, 16, passphrase, strlen(passphrase), 1, 1, drawn, needed, text,
-                           sizeof text);
+        return fail("no random bytes");
+    answer =
+        shamir_create(plan, strlen(plan), secret, 16, first, strlen(first), 1, 1, drawn, needed, text, sizeof text);
     if (answer.code != SHAMIR_DONE)
         return told(stderr, &answer);
     fwrite(text, 1, (size_t)answer.written, stdout);
@@ -79,7 +92,7 @@ static int show(char *status) {
     return is_other;
 }
 
-static int recover(const char *passphrase, const char *noted) {
+static int recover(const char *noted) {
     static char status[SHAMIR_STATUS_BYTES_MAX + 1];
     size_t used = 0, bytes;
     shamir_answer answer, closer;
@@ -99,26 +112,31 @@ static int recover(const char *passphrase, const char *noted) {
             papers[used++] = '\n';
         }
         if (answer.first >= answer.second) {
-            answer = shamir_recover(papers, used, passphrase, strlen(passphrase), SHAMIR_EXPONENT_MAX, noted,
-                                    strlen(noted), secret, sizeof secret);
+            /* With an empty fingerprint, the library would compare nothing. It refuses "-". */
+            answer = shamir_recover(papers, used, first, strlen(first), SHAMIR_EXPONENT_MAX, *noted ? noted : "-",
+                                    *noted ? strlen(noted) : 1, secret, sizeof secret);
             return answer.code == SHAMIR_DONE ? fingerprint("", (size_t)answer.written) : told(stderr, &answer);
         }
     }
-    fputs("more papers are needed\n", stderr);
-    return 1;
+    return fail("more papers are needed");
 }
 
-static int drill(const char *passphrase, const char *noted, const char *name) {
+static int drill(const char *noted, const char *name) {
     FILE *file = fopen(name, "r");
     size_t bytes = file ? fread(papers, 1, sizeof papers, file) : 0;
-    unsigned long number = 0, quorums = (unsigned long)shamir_quorums(papers, bytes).first;
+    shamir_answer answer = shamir_quorums(papers, bytes);
+    unsigned long number = 0, quorums = (unsigned long)answer.first;
     char *line, *end;
 
+    if (!file || !feof(file))
+        return fail("the file can't be read, or is too long");
+    if (answer.code != SHAMIR_DONE)
+        return told(stderr, &answer);
     signal(SIGINT, stop);
     for (;;) {
-        shamir_answer answer =
-            shamir_drill(papers, bytes, passphrase, strlen(passphrase), SHAMIR_EXPONENT_MAX, after,
-                         number ? strlen(after) : 0, 1000, SHAMIR_FORM_EXPECTED, noted, strlen(noted), text, 65536);
+        answer =
+            shamir_drill(papers, bytes, first, strlen(first), SHAMIR_EXPONENT_MAX, after, number ? strlen(after) : 0,
+                         1000, SHAMIR_FORM_EXPECTED, noted, strlen(noted), text, 65536);
         if (answer.code != SHAMIR_DONE)
             return told(stderr, &answer);
         for (line = text; line < text + answer.second && !stopped; line = end + 1) {
@@ -136,11 +154,8 @@ static int drill(const char *passphrase, const char *noted, const char *name) {
 }
 
 static int repair(void) {
-    shamir_answer answer;
+    shamir_answer answer = shamir_repair(first, strlen(first), text, sizeof text);
 
-    if (!fgets(papers, SHAMIR_LINE_BYTES_MAX + 2, stdin))
-        return 2;
-    answer = shamir_repair(papers, strcspn(papers, "\n"), text, sizeof text);
     if (answer.code != SHAMIR_DONE)
         return told(stderr, &answer);
     return fwrite(text, 1, (size_t)answer.written, stdout) != answer.written;
@@ -148,14 +163,20 @@ static int repair(void) {
 
 int main(int count, char **words) {
     const char *command = count > 1 ? words[1] : "";
-    int status = strcmp(command, "make") == 0 && count == 4      ? make(words[2], words[3])
-                 : strcmp(command, "recover") == 0 && count == 4 ? recover(words[2], words[3])
-                 : strcmp(command, "drill") == 0 && count == 5   ? drill(words[2], words[3], words[4])
-                 : strcmp(command, "repair") == 0                ? repair()
-                                                                 : 2;
+    int status =
+        strcmp(command, "make") == 0 && count == 3 && read_line()      ? make(words[2])
+        : strcmp(command, "recover") == 0 && count == 3 && read_line() ? recover(words[2])
+        : strcmp(command, "drill") == 0 && count == 4 && read_line()   ? drill(words[2], words[3])
+        : strcmp(command, "repair") == 0 && count == 2 && read_line()
+            ? repair()
+            : fail("give make PLAN, recover FINGERPRINT, drill FINGERPRINT FILE or repair, and a line of input");
+
+    if (fflush(stdout) || ferror(stdout))
+        status = fail("the output can't be written");
     shamir_wipe(secret, sizeof secret);
     shamir_wipe(drawn, sizeof drawn);
     shamir_wipe(papers, sizeof papers);
+    shamir_wipe(first, sizeof first);
     shamir_wipe(text, sizeof text);
     return status;
 }

@@ -1,14 +1,15 @@
 /*
- * Four clients of the library. Papers are lines of standard input, or of a file, and FINGERPRINT is what `make` told.
+ * Four clients of the library. The first line of standard input is the passphrase, except for `repair`. Papers are the
+ * lines after it, or those of a file. FINGERPRINT is what `make` told.
  *
  *     g++ -std=c++17 -Iinclude examples/cpp/wallet.cpp libshamir.a -o wallet
- *     ./wallet make PLAN PASSPHRASE
- *     ./wallet recover PASSPHRASE FINGERPRINT
- *     ./wallet drill PASSPHRASE FINGERPRINT FILE      # Ctrl-C stops it
+ *     ./wallet make PLAN
+ *     ./wallet recover FINGERPRINT
+ *     ./wallet drill FINGERPRINT FILE      # Ctrl-C stops it
  *     ./wallet repair
  *
- * To stay short, it takes the passphrase as a word of the command, which ps shows, and reads papers into strings and
- * streams, which keep copies. A wallet asks for the passphrase, and clears what it reads with shamir_wipe.
+ * To stay short, it shows what is typed, and reads it into strings and streams, which keep copies. A wallet hides the
+ * passphrase, and clears what it reads with shamir_wipe.
  */
 #include <csignal>
 #include <fstream>
@@ -20,10 +21,10 @@
 #include "shamir.hpp"
 
 static const std::map<std::uint32_t, const char *> advice = {
-    {13, ": put ? for the words that can't be read, and repair the line"},
-    {18, ": read this word again"},
-    {51, ": a paper isn't of this backup, or was changed: drill all papers"},
-    {52, ": the passphrase is another one, or the papers are"},
+    {SHAMIR_E_BAD_CHECKSUM, ": put ? for the words that can't be read, and repair the line"},
+    {SHAMIR_E_WRONG_WORD, ": read this word again"},
+    {SHAMIR_E_DIGEST_MISMATCH, ": a paper isn't of this backup, or was changed: drill all papers"},
+    {SHAMIR_E_OTHER_SECRET, ": the passphrase is another one, or the papers are"},
 };
 static volatile std::sig_atomic_t stopped;
 
@@ -40,14 +41,14 @@ static std::string told(const shamir::Refusal &refusal, shamir::Text paper = {})
     return std::to_string(refusal.code) + " " + refusal.text() + (found == advice.end() ? "" : found->second);
 }
 
-static void make(shamir::Text plan, shamir::Text passphrase) {
+static void make(shamir::Text passphrase, shamir::Text plan) {
     shamir::Secret secret(16);
     draw(secret.data(), secret.size());
     std::cout << shamir::Text(*shamir::create(plan, secret, {passphrase, 1, true}, draw));
     std::cout << "# fingerprint " << *shamir::fingerprint(secret) << "\n";
 }
 
-static void recover(shamir::Text passphrase, shamir::Text noted) {
+static void recover(shamir::Text passphrase, const std::string &noted) {
     shamir::Mnemonics papers;
     std::string before;
     for (std::string paper; std::getline(std::cin, paper);) {
@@ -68,7 +69,7 @@ static void recover(shamir::Text passphrase, shamir::Text noted) {
         std::cout << now.str();
         before = now.str(), papers = std::move(more);
         if (status->enough()) {
-            const shamir::Secret secret = *shamir::recover(papers, {passphrase, std::string(noted)});
+            const shamir::Secret secret = *shamir::recover(papers, {passphrase, noted});
             std::cout << "fingerprint " << *shamir::fingerprint(secret) << "\n";
             return;
         }
@@ -76,13 +77,15 @@ static void recover(shamir::Text passphrase, shamir::Text noted) {
     throw std::runtime_error("more papers are needed");
 }
 
-static void drill(shamir::Text passphrase, shamir::Text noted, const char *name) {
+static void drill(shamir::Text passphrase, const std::string &noted, const char *name) {
     std::ifstream file(name);
-    const std::string papers{std::istreambuf_iterator<char>(file), {}};
+    std::ostringstream papers;
+    if (!(papers << file.rdbuf()))
+        throw std::runtime_error("the file can't be read, or is empty");
     std::signal(SIGINT, [](int) { stopped = 1; });
     shamir::DrillOptions options;
     options.passphrase = passphrase, options.expected = noted;
-    const auto drilled = shamir::drill(papers, options, [](const auto &outcome, const auto &progress) {
+    const auto drilled = shamir::drill(papers.str(), options, [](const auto &outcome, const auto &progress) {
         std::cout << progress.listed << " of " << progress.quorums << ": " << shamir::to_text(outcome.names)
                   << (outcome.expected.value_or(false) ? " as expected\n" : " NOT as expected\n") << std::flush;
         return !stopped;
@@ -91,27 +94,27 @@ static void drill(shamir::Text passphrase, shamir::Text noted, const char *name)
         std::cout << "stopped after " << shamir::to_text(drilled->last) << "\n";
 }
 
-static void repair() {
-    std::string line;
-    std::getline(std::cin, line);
-    std::cout << shamir::Text(*shamir::repair(line));
-}
-
 int main(int count, char **words) {
     try {
         const shamir::Text command = count > 1 ? words[1] : "";
-        if (command == "make" && count == 4)
-            make(words[2], words[3]);
-        else if (command == "recover" && count == 4)
-            recover(words[2], words[3]);
-        else if (command == "drill" && count == 5)
-            drill(words[2], words[3], words[4]);
-        else if (command == "repair")
-            repair();
+        std::string line;
+        if (command == "make" && count == 3 && std::getline(std::cin, line))
+            make(line, words[2]);
+        else if (command == "recover" && count == 3 && std::getline(std::cin, line))
+            recover(line, words[2]);
+        else if (command == "drill" && count == 4 && std::getline(std::cin, line))
+            drill(line, words[2], words[3]);
+        else if (command == "repair" && count == 2 && std::getline(std::cin, line))
+            std::cout << shamir::Text(*shamir::repair(line));
+        else
+            throw std::runtime_error(
+                "give make PLAN, recover FINGERPRINT, drill FINGERPRINT FILE or repair, and a line of input");
+        if (!std::cout.flush())
+            throw std::runtime_error("the output can't be written");
         return 0;
     } catch (const shamir::Refused &refused) {
         std::cerr << told(refused.refusal) << "\n";
-    } catch (const std::runtime_error &error) {
+    } catch (const std::exception &error) {
         std::cerr << error.what() << "\n";
     }
     return 1;

@@ -1,14 +1,16 @@
 /**
- * Four clients of the package. Papers are lines of standard input, or of a file, and FINGERPRINT is what `make` told.
+ * Four clients of the package. The first line of standard input is the passphrase, except for `repair`. Papers are the lines after it, or
+ * those of a file. FINGERPRINT is what `make` told.
  *
- *     node wallet.js make PLAN PASSPHRASE
- *     node wallet.js recover PASSPHRASE FINGERPRINT
- *     node wallet.js drill PASSPHRASE FINGERPRINT FILE      # Ctrl-C stops it
+ *     node wallet.js make PLAN
+ *     node wallet.js recover FINGERPRINT
+ *     node wallet.js drill FINGERPRINT FILE      # Ctrl-C stops it
  *     node wallet.js repair
  *
- * It needs shamir32.wasm beside the files of the package. To stay short, it takes the passphrase as a word of the command, which `ps`
- * shows, and clears nothing. A wallet asks for the passphrase. The head of shamir.js says how to keep secrets out of strings.
+ * It needs shamir32.wasm beside the files of the package. To stay short, it shows what is typed, and keeps it in strings. A wallet hides
+ * the passphrase. The head of shamir.js says how to keep secrets out of strings.
  */
+import { Console } from "node:console";
 import { readFile } from "node:fs/promises";
 import { createInterface } from "node:readline";
 import { open, Refusal } from "shamir";
@@ -21,7 +23,10 @@ const ADVICE = {
   52: ": the passphrase is another one, or the papers are",
 };
 const shamir = await open();
-const lines = () => createInterface({ input: process.stdin });
+// The console of Node doesn't say if a write fails.
+const console = new Console({ stdout: process.stdout, stderr: process.stderr, ignoreErrors: false });
+const input = createInterface({ input: process.stdin });
+const lines = input[Symbol.asyncIterator]();
 
 /** Returns what a call gives, or the refusal. */
 function attempt(call) {
@@ -39,15 +44,16 @@ function told(refusal, paper) {
   return `${code} ${text}${ADVICE[code] ?? ""}`;
 }
 
-function make(plan, passphrase) {
+function make(passphrase, plan) {
   const secret = crypto.getRandomValues(new Uint8Array(16));
   for (const paper of shamir.create(plan, secret, { passphrase, exponent: 1, extendable: true })) console.log(paper);
   console.log("# fingerprint", shamir.fingerprint(secret));
+  secret.fill(0);
 }
 
 async function recover(passphrase, expect) {
   let [papers, before] = [[], ""];
-  for await (const paper of lines()) {
+  for await (const paper of lines) {
     const status = attempt(() => shamir.status([...papers, paper]));
     if (status instanceof Refusal) {
       console.log(told(status, paper));
@@ -56,7 +62,11 @@ async function recover(passphrase, expect) {
     const now = status.groups.map(({ group, names, threshold }) => `group ${group} has ${names.join("+")}, ${threshold} are needed`).join("\n");
     console.log(`${now === before ? "again" : `groups ${status.complete} of ${status.required}`}\n${now}`);
     [papers, before] = [[...papers, paper], now];
-    if (status.enough) return console.log("fingerprint", shamir.fingerprint(shamir.recover(papers, { passphrase, expect })));
+    if (status.enough) {
+      const secret = shamir.recover(papers, { passphrase, expect });
+      console.log("fingerprint", shamir.fingerprint(secret));
+      return secret.fill(0);
+    }
   }
   throw new Error("more papers are needed");
 }
@@ -78,14 +88,18 @@ async function drill(passphrase, expect, file) {
   }
 }
 
-async function repair() {
-  for await (const line of lines()) return shamir.repair(line).forEach((paper) => console.log(paper));
+function repair(line) {
+  for (const paper of shamir.repair(line)) console.log(paper);
 }
 
 const [command, ...words] = process.argv.slice(2);
 try {
-  await { make, recover, drill, repair }[command](...words);
+  const call = [make, recover, drill, repair].find(({ name, length }) => name === command && length === words.length + 1);
+  const { value: line } = call ? await lines.next() : {};
+  if (line === undefined) throw new Error("give make PLAN, recover FINGERPRINT, drill FINGERPRINT FILE or repair, and a line of input");
+  await call(line, ...words);
 } catch (error) {
   console.error(error instanceof Refusal ? told(error) : error.message);
   process.exitCode = 1;
 }
+input.close();

@@ -1,12 +1,12 @@
-"""Four clients of the library. Papers are lines of standard input, or of a file, and FINGERPRINT is what `make` told.
+"""Four clients of the library. The first line of standard input is the passphrase, except for `repair`. Papers are the lines after it, or
+those of a file. FINGERPRINT is what `make` told.
 
-    python3 wallet.py make PLAN PASSPHRASE
-    python3 wallet.py recover PASSPHRASE FINGERPRINT
-    python3 wallet.py drill PASSPHRASE FINGERPRINT FILE      # Ctrl-C stops it
+    python3 wallet.py make PLAN
+    python3 wallet.py recover FINGERPRINT
+    python3 wallet.py drill FINGERPRINT FILE      # Ctrl-C stops it
     python3 wallet.py repair
 
-To stay short, it takes the passphrase as a word of the command, which `ps` shows, and clears nothing. A wallet asks for the passphrase,
-and uses `recover_into` and bytearrays.
+To stay short, it shows what is typed, and clears nothing. A wallet hides the passphrase, and uses `recover_into` and bytearrays.
 """
 import os
 import signal
@@ -22,7 +22,7 @@ ADVICE = {
 }
 
 
-def make(plan: str, passphrase: str) -> None:
+def make(passphrase: str, plan: str) -> None:
     secret = os.urandom(16)
     print(*shamir.create(plan, secret, passphrase=passphrase, exponent=1, extendable=True), sep="\n")
     print("# fingerprint", shamir.fingerprint(secret))
@@ -57,8 +57,8 @@ def drill(passphrase: str, noted: str, file: str) -> None:
             return
 
 
-def repair() -> None:
-    print(*shamir.repair(sys.stdin.readline().strip()), sep="\n")
+def repair(line: str) -> None:
+    print(*shamir.repair(line), sep="\n")
 
 
 def told(refusal: shamir.Refusal, paper: str = "") -> str:
@@ -71,7 +71,12 @@ def told(refusal: shamir.Refusal, paper: str = "") -> str:
     return f"{int(refusal.code)} {refusal.text}{ADVICE.get(refusal.code, '')}"
 
 
+COMMANDS = {("make", 3): make, ("recover", 3): recover, ("drill", 4): drill, ("repair", 2): repair}
+command = COMMANDS.get((*sys.argv[1:2], len(sys.argv)))
+line = sys.stdin.readline() if command else ""
+if not line:
+    sys.exit("give make PLAN, recover FINGERPRINT, drill FINGERPRINT FILE or repair, and a line of input")
 try:
-    {"make": make, "recover": recover, "drill": drill, "repair": repair}[sys.argv[1]](*sys.argv[2:])
+    command(line.rstrip("\n"), *sys.argv[2:])
 except shamir.Refusal as refused:
     sys.exit(told(refused))

@@ -1,14 +1,15 @@
-//! Four clients of the crate. Papers are lines of standard input, or of a file, and FINGERPRINT is what `make` told.
+//! Four clients of the crate. The first line of standard input is the passphrase, except for `repair`. Papers are the lines after it, or
+//! those of a file. FINGERPRINT is what `make` told.
 //!
 //! ```text
-//! cargo run --example wallet make PLAN PASSPHRASE
-//! cargo run --example wallet recover PASSPHRASE FINGERPRINT
-//! cargo run --example wallet drill PASSPHRASE FINGERPRINT FILE      # Enter stops it
+//! cargo run --example wallet make PLAN
+//! cargo run --example wallet recover FINGERPRINT
+//! cargo run --example wallet drill FINGERPRINT FILE      # Enter stops it
 //! cargo run --example wallet repair
 //! ```
 //!
-//! To stay short, it takes the passphrase as a word of the command, which `ps` shows, and keeps papers in a `String`, which isn't cleared.
-//! A wallet asks for the passphrase, and keeps papers in `Mnemonics`.
+//! To stay short, it shows what is typed, and keeps it in a `String`, which isn't cleared. A wallet hides the passphrase, and keeps papers
+//! in `Mnemonics`.
 use shamir::{CreateOptions, Drill, Error, Found, Plan, RecoverOptions, Secret};
 use std::sync::atomic::{AtomicBool, Ordering};
 use std::{fs::File, io, io::Read};
@@ -31,7 +32,7 @@ fn told(error: &Error, paper: &str) -> String {
     format!("{}{advice}", text.trim_start_matches(&line))
 }
 
-fn make(plan: &str, passphrase: &str) -> Result<(), Box<dyn std::error::Error>> {
+fn make(passphrase: &str, plan: &str) -> Result<(), Box<dyn std::error::Error>> {
     let mut source = File::open("/dev/urandom")?;
     let mut draw = |room: &mut [u8]| source.read_exact(room).map_err(Box::<dyn std::error::Error>::from);
     let secret = Secret::draw(16, &mut draw)?;
@@ -88,21 +89,25 @@ fn drill(passphrase: &str, noted: &str, file: &str) -> Result<(), Box<dyn std::e
     Ok(())
 }
 
-fn repair() -> Result<(), Box<dyn std::error::Error>> {
-    let mut line = String::new();
-    io::stdin().read_line(&mut line)?;
-    print!("{}", shamir::repair(line.trim_end())?.as_str());
+fn repair(line: &str) -> Result<(), Box<dyn std::error::Error>> {
+    print!("{}", shamir::repair(line)?.as_str());
     Ok(())
+}
+
+fn run(words: &[&str]) -> Result<(), Box<dyn std::error::Error>> {
+    let usage = "give make PLAN, recover FINGERPRINT, drill FINGERPRINT FILE or repair, and a line of input";
+    let line = || io::stdin().lines().next().unwrap_or(Err(io::Error::other(usage)));
+    match *words {
+        ["make", plan] => make(&line()?, plan),
+        ["recover", noted] => recover(&line()?, noted),
+        ["drill", noted, file] => drill(&line()?, noted, file),
+        ["repair"] => repair(&line()?),
+        _ => Err(usage.into()),
+    }
 }
 
 fn main() -> Result<(), String> {
     let words: Vec<String> = std::env::args().skip(1).collect();
-    let done = match words.iter().map(String::as_str).collect::<Vec<_>>()[..] {
-        ["make", plan, passphrase] => make(plan, passphrase),
-        ["recover", passphrase, noted] => recover(passphrase, noted),
-        ["drill", passphrase, noted, file] => drill(passphrase, noted, file),
-        ["repair"] => repair(),
-        _ => Err("give make, recover, drill or repair".into()),
-    };
+    let done = run(&words.iter().map(String::as_str).collect::<Vec<_>>());
     done.map_err(|error| error.downcast_ref().map_or_else(|| error.to_string(), |refused| told(refused, "")))
 }
