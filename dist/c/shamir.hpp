@@ -3,13 +3,16 @@
  * which order it refuses. Link with the library as a program in C does. docs/LIBRARY.md has a first call.
  *
  * A text is a std::string_view (Text), and bytes are a view too (Bytes), to which arrays and vectors of std::uint8_t convert. Options
- * are structs, whose fields have the defaults of the command shamir. They hold views, so what they look at must live as long.
+ * are structs, whose fields have the defaults of the command shamir. Their passphrase is a view, so the text of it must live until the
+ * call returns. An expected fingerprint is a string of their own.
  *
- * A call gives an Answer: its value, or the Refusal of the library. What it gives is in memory that is cleared before it is freed:
- * a Secret, or Mnemonics. Outputs of the library are cleared too. What you copy out of them isn't.
+ * A call gives an Answer: its value, or the Refusal of the library. Secrets and mnemonics are in memory that is cleared before it is
+ * freed: a Secret, or Mnemonics. So are the buffers into which the library writes them. What you copy out of them isn't. An Answer
+ * without a name gives its value away, and has no ->, because its value would end with the statement.
  *
- * The layer throws Refused if you take the value of a refused answer, std::invalid_argument for a line feed inside a line and for
- * options that can't stand together, and what the standard library throws if there is no memory.
+ * The layer throws Refused if you take the value of a refused answer, std::bad_variant_access if you take the refusal of another one,
+ * std::invalid_argument for a line feed inside a line and for options that can't stand together, and what the standard library throws
+ * if there is no memory. It is tested, and not proved.
  */
 #ifndef SHAMIR_HPP
 #define SHAMIR_HPP
@@ -119,16 +122,17 @@ public:
 
     explicit operator bool() const noexcept { return held_.index() == 0; }
     bool has_value() const noexcept { return held_.index() == 0; }
-    const Refusal &error() const { return std::get<1>(held_); }
+    Refusal error() const { return std::get<1>(held_); }
 
     const Value &value() const & { return checked(), std::get<0>(held_); }
     Value &value() & { return checked(), std::get<0>(held_); }
-    Value &&value() && { return checked(), std::get<0>(std::move(held_)); }
+    Value value() && { return checked(), std::get<0>(std::move(held_)); }
     const Value &operator*() const & { return value(); }
     Value &operator*() & { return value(); }
-    Value &&operator*() && { return std::move(*this).value(); }
-    const Value *operator->() const { return &value(); }
-    Value *operator->() { return &value(); }
+    Value operator*() && { return std::move(*this).value(); }
+    const Value *operator->() const & { return &value(); }
+    Value *operator->() & { return &value(); }
+    const Value *operator->() const && = delete;
 
 private:
     void checked() const
@@ -213,9 +217,9 @@ template <class Unit, class Call> Answer<Cleared<Unit>> written(std::size_t room
 inline Text text_of(const Cleared<char> &text) { return {text.data(), text.size()}; }
 
 /* The library compares nothing if it gets an empty fingerprint. One that is given and empty becomes a text that it refuses. */
-inline Text fingerprint_of(const std::optional<Text> &expected)
+inline Text fingerprint_of(const std::optional<std::string> &expected)
 {
-    return !expected ? Text() : expected->empty() ? Text("-") : *expected;
+    return !expected ? Text() : expected->empty() ? Text("-") : Text(*expected);
 }
 
 } // namespace detail
@@ -231,20 +235,21 @@ public:
         }
     }
 
-    /* Adds one line, which may end with a line feed. */
+    /* Adds one line, which may end with a line feed. If there is no memory, nothing is added. */
     void add(Text line)
     {
         line.remove_suffix(!line.empty() && line.back() == '\n');
         if (line.find('\n') != Text::npos) {
             throw std::invalid_argument("a line holds a line feed, so it is several lines");
         }
-        text_.insert(text_.end(), line.begin(), line.end());
-        text_.push_back('\n');
+        Cleared<char> added(line.begin(), line.end());
+        added.push_back('\n');
+        text_.insert(text_.end(), added.begin(), added.end());
     }
 
     operator Text() const noexcept { return detail::text_of(text_); }
 
-    /* The lines, without their line feeds. They belong to this object. */
+    /* The lines, without their line feeds. They belong to this object, until a line is added. */
     std::vector<Text> lines() const & { return detail::parts(*this, '\n'); }
     std::vector<Text> lines() && = delete;
 
@@ -304,12 +309,12 @@ struct CreateOptions {
 /* If a fingerprint is expected, a secret with another one is refused (52). */
 struct DecryptOptions {
     Text passphrase = {};
-    std::optional<Text> expected = {};
+    std::optional<std::string> expected = {};
 };
 
 struct RecoverOptions {
     Text passphrase = {};
-    std::optional<Text> expected = {};
+    std::optional<std::string> expected = {};
     std::uint32_t max_exponent = SHAMIR_EXPONENT_MAX;
 };
 
@@ -320,7 +325,7 @@ struct RecoverOptions {
  */
 struct DrillOptions {
     Text passphrase = {};
-    std::optional<Text> expected = {};
+    std::optional<std::string> expected = {};
     bool fingerprints = false;
     std::uint32_t max_exponent = SHAMIR_EXPONENT_MAX;
     Names after = {};
@@ -337,7 +342,7 @@ struct Outcome {
     std::optional<unsigned> mismatch;
 };
 
-/* How many quorums a drill has listed, and how many the mnemonics have. */
+/* How many quorums this drill has listed, also if it began after some, and how many the mnemonics have. */
 struct Progress {
     std::uint64_t listed;
     std::uint64_t quorums;
@@ -350,10 +355,14 @@ struct Drilled {
 };
 
 /* The version of the library. */
-inline std::string version()
+inline Answer<std::string> version()
 {
     char room[SHAMIR_TEXT_BYTES_MAX];
-    return std::string(room, detail::size_of(shamir_version(room, sizeof room).written));
+    const shamir_answer answer = shamir_version(room, sizeof room);
+    if (answer.code != SHAMIR_DONE) {
+        return Refusal(answer);
+    }
+    return std::string(room, detail::size_of(answer.written));
 }
 
 inline Answer<Share> parse(Text line)
@@ -390,7 +399,7 @@ inline Answer<Mnemonics> create(Text plan, Bytes secret, const CreateOptions &op
 
 namespace detail {
 
-template <class Draw> using IfDraws = std::enable_if_t<std::is_invocable_v<Draw &, std::uint8_t *, std::size_t>>;
+template <class Draw> using IfDraws = std::enable_if_t<std::is_void_v<std::invoke_result_t<Draw &, std::uint8_t *, std::size_t>>>;
 
 template <class Draw> Secret drawn(std::uint64_t count, Draw &draw)
 {
@@ -401,7 +410,8 @@ template <class Draw> Secret drawn(std::uint64_t count, Draw &draw)
 
 } // namespace detail
 
-/* Creates a backup. draw(bytes, count) fills this many bytes with unpredictable ones, or throws. */
+/* Creates a backup. draw(bytes, count) fills this many bytes with unpredictable ones, or throws. It returns nothing, so a compiler
+   refuses a function such as getentropy, which returns whether it failed. */
 template <class Draw, class = detail::IfDraws<Draw>>
 Answer<Mnemonics> create(Text plan, Bytes secret, const CreateOptions &options, Draw &&draw)
 {
@@ -490,9 +500,11 @@ inline Answer<Mnemonics> resplit(Text plan, Text lines, Bytes random)
 template <class Draw, class = detail::IfDraws<Draw>> Answer<Mnemonics> resplit(Text plan, Text lines, Draw &&draw)
 {
     const auto needed = shamir_resplit(plan.data(), plan.size(), lines.data(), lines.size(), nullptr, 0, nullptr, 0);
-    const std::uint64_t count = needed.code == SHAMIR_E_RANDOM_LENGTH ? needed.first : 0;
+    if (needed.code != SHAMIR_E_RANDOM_LENGTH) {
+        return Refusal(needed);
+    }
     for (int draws = 1;; draws++) {
-        auto made = resplit(plan, lines, Bytes(detail::drawn(count, draw)));
+        auto made = resplit(plan, lines, Bytes(detail::drawn(needed.first, draw)));
         if (made || made.error().code != SHAMIR_E_SAME_IDENTIFIER || draws == 10) {
             return made;
         }
@@ -518,12 +530,16 @@ inline Answer<std::string> fingerprint(Bytes secret)
 }
 
 /* Gives the words of the word list that begin with these letters. */
-inline std::vector<std::string> words(Text letters)
+inline Answer<std::vector<std::string>> words(Text letters)
 {
-    Cleared<char> room(SHAMIR_WORDS_BYTES_MAX);
-    const shamir_answer answer = shamir_words(letters.data(), letters.size(), room.data(), room.size());
-    const auto found = detail::parts(Text(room.data(), detail::size_of(answer.written)), '\n');
-    return {found.begin(), found.end()};
+    const auto text = detail::written<char>(SHAMIR_WORDS_BYTES_MAX, [&](char *room, std::size_t size) {
+        return shamir_words(letters.data(), letters.size(), room, size);
+    });
+    if (!text) {
+        return text.error();
+    }
+    const auto found = detail::parts(detail::text_of(*text), '\n');
+    return std::vector<std::string>(found.begin(), found.end());
 }
 
 namespace detail {
@@ -580,7 +596,11 @@ template <class Each> Answer<Drilled> drill(Text lines, const DrillOptions &opti
             return Refusal(answer);
         }
         if (progress.listed == 0) {
-            progress.quorums = *quorums(lines);
+            const auto counted = quorums(lines);
+            if (!counted) {
+                return counted.error();
+            }
+            progress.quorums = *counted;
         }
         for (const Text line : detail::parts(Text(room.data(), detail::size_of(answer.second)), '\n')) {
             const Outcome outcome = detail::outcome(line, options.fingerprints);
