@@ -8,7 +8,7 @@
  *
  * A call gives an Answer: its value, or the Refusal of the library. Secrets and mnemonics are in memory that is cleared before it is
  * freed: a Secret, or Mnemonics. So are the buffers into which the library writes them. What you copy out of them isn't. An Answer
- * without a name gives its value away, and has no ->, because its value would end with the statement.
+ * without a name ends with its statement. So * moves the value out of it, and -> doesn't compile: give the Answer a name first.
  *
  * The layer throws Refused if you take the value of a refused answer, std::bad_variant_access if you take the refusal of another one,
  * std::invalid_argument for a line feed inside a line and for options that can't stand together, and what the standard library throws

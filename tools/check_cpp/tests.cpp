@@ -130,7 +130,7 @@ void check_recovery()
     options.expected = noted;
     /* Options keep a copy of the fingerprint. */
     noted = "00000000";
-    /* An answer that ends gives its value away, so a reference to it stays good. */
+    /* The value of an answer without a name is moved out of it, so nothing refers to what is gone. */
     static_assert(!std::is_reference_v<decltype(*shamir::recover(""))> && !std::is_reference_v<decltype(shamir::recover("").error())>);
     const auto found = shamir::recover(papers({3, 4}), options);
     expect("recover", found && std::equal(found->begin(), found->end(), secret.begin(), secret.end()));
