@@ -170,7 +170,13 @@ fn tells_that_no_passphrase_was_used(rt: HostRuntime) -> Result<(), Fail> {
             expect_said(&rt, alloc, (&given, &one, SEEN), &[count], 0)?;
         }
     }
-    expect_said(&rt, alloc, (&["shamir", "drill"], &five, SEEN), &[SEVEN, BARE], 0)?;
+    expect_said(
+        &rt,
+        alloc,
+        (&["shamir", "drill"], &five, SEEN),
+        &[SEVEN, BARE],
+        0,
+    )?;
     let other = ["shamir", "drill", "--expect=00000000"];
     expect_said(&rt, alloc, (&other, &one, SEEN), &[ONE], 1)?;
     Ok(())
