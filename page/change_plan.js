@@ -210,22 +210,24 @@ async function drillBeside(desk, made, given) {
  */
 function tellDone(verdict, { plan, kind: { extendable } }, given) {
   setUnfinished("");
+  // Without the flag, old and new papers agree with any one passphrase of which both were made, also with a mistyped one.
+  const isUnproved = !given && !extendable;
   const told = [
     toldVerdict(verdict),
     paragraph(say("change.same"), "note"),
-    !given && extendable ? paragraph(say(given === null ? "change.bare.noted" : "change.noted.first")) : null,
+    isUnproved ? paragraph(say("change.unnoted"), "note") : null,
+    given ? null : paragraph(say(given === null ? "change.bare.noted" : "change.noted.first"), "note"),
     paragraph(say("change.restore"), "note"),
     element("h2", {}, say("change.new.title")),
     paragraph(notedPlan(plan), "sentence"),
     element("h2", {}, say("change.old.title")),
     paragraph(say(extendable ? "change.old" : "change.old.renewed")),
-    !given && !extendable ? paragraph(say("change.unnoted")) : null,
     paragraph(say("change.mixed")),
     paragraph(say("change.thief")),
     verdict.table,
     paragraph(say("close")),
   ];
-  return ask(say("change.done"), told, [{ key: "end", label: say("end"), kind: "primary" }]);
+  return ask(say(isUnproved ? "change.done.unproved" : "change.done"), told, [{ key: "end", label: say("end"), kind: "primary" }]);
 }
 
 /**

@@ -117,8 +117,8 @@ def finish(page):
         raise Failed("the page showed the secret")
 
 
-def check_done(page, see, what, texts, green):
-    page.wait_title(say("change.done"))
+def check_done(page, see, what, texts, green, title="change.done"):
+    page.wait_title(say(title))
     for text in (*texts, say("change.same"), say("change.restore"), say("change.mixed"), say("change.thief")):
         page.wait_text(text)
     if page.text().index(say("change.restore")) > page.text().index(say("change.old.title")):
@@ -230,8 +230,13 @@ def check_renewed(page, see):
             answer_passphrase(page, PASSPHRASE, noted)
         page.push(say("drill.start"))
         verdict = say(f"verdict.all.{'noted' if noted else 'own'}.new", quorums=counted(3, "quorum"), fingerprint=FINGERPRINT)
-        texts = [verdict, say("change.old.renewed"), *([] if noted else [say("change.unnoted")])]
-        check_done(page, see, f"done, not extendable, {wallet}", texts, [verdict] if noted else [])
+        if noted:
+            check_done(page, see, f"done, not extendable, {wallet}", [verdict, say("change.old.renewed")], [verdict])
+        else:
+            texts = [verdict, say("change.noted.first"), say("change.old.renewed")]
+            check_done(page, see, f"done, not extendable, {wallet}", texts, [], "change.done.unproved")
+            if page.text().index(say("change.unnoted")) > page.text().index(say("change.restore")):
+                raise Failed("that the old papers stay is told after what is to be done")
         finish(page)
 
 

@@ -5,7 +5,7 @@ from typing import List, Optional
 
 from shamir.papers.collect import ask_for_more, collect, tell_damaged, tell_left_out
 from shamir.papers.desk import Desk, Paper
-from shamir.papers.drill import Verdict, run_drill
+from shamir.papers.drill import Verdict, run_drill, tell_verdict
 from shamir.papers.questions import ask_passphrase
 from shamir.papers.screen import Back, Screen
 from shamir.papers.texts import one_or_many, say
@@ -56,8 +56,7 @@ def _tell(screen: Screen, desk: Desk, verdict: Verdict, noted: str) -> str:
     # Without a noted fingerprint, no result is known to be good.
     result = "same" if verdict.result == "good" and not noted else verdict.result
     screen.tell(say(f"check.done.{_kind(desk, verdict, result)}"), "strong")
-    for sentence in verdict.sentences:
-        screen.tell(sentence, {"good": "good", "same": ""}.get(result, "bad"))
+    tell_verdict(screen, verdict, "good" if result == "good" else "")
     _tell_tried(screen, desk, verdict)
     if result in ("other", "none"):
         again = say("check.again" if verdict.has_passphrase else "check.again.none")
