@@ -43,7 +43,8 @@ async function letNote({ fingerprint, isOwn, hasPassphrase }) {
   setStep(6);
   const where = paragraph(say(hasPassphrase ? "noted.apart" : "noted.papers"));
   const shown = element("p", { class: "fingerprint" }, fingerprint);
-  const noting = [paragraph(say("noted.new")), shown, paragraph(say(isOwn ? "noted.own" : "noted.drawn")), where, paragraph(say("proof.next"), "hint")];
+  const next = paragraph(say(hasPassphrase ? "proof.next.both" : "proof.next"), "hint");
+  const noting = [paragraph(say("noted.new")), shown, paragraph(say(isOwn ? "noted.own" : "noted.drawn")), where, next];
   const skip = isOwn ? [{ key: "skip", label: say("noted.skip") }] : [];
   const answer = await ask(say(isOwn ? "noted.title.own" : "noted.title"), noting, [{ key: "go", label: say("noted.done"), kind: "primary" }, ...skip]);
   return answer === "skip" ? "" : null;

@@ -33,7 +33,7 @@ def change_plan(screen: Screen, desk: Desk) -> None:
         if desk.status().enough:
             typed = "" if _change(screen, desk) == "p" else None
         else:
-            typed = ask_for_more(screen, desk, say("recover.few"), say("recover.too_few"), True)
+            typed = ask_for_more(screen, desk, say("recover.few"), say("recover.too_few"))
 
 
 def _change(screen: Screen, desk: Desk) -> str:
@@ -142,7 +142,7 @@ def _tell_done(screen: Screen, desk: Desk, plan: Plan, verdict: Verdict) -> None
     if is_unproved:
         screen.tell(say("change.repaired" if is_repaired else "change.unnoted"), "strong")
     screen.tell(say("change.restore"), "strong")
-    screen.tell(noted_plan(plan))
+    screen.tell(f"{noted_plan(plan)} {say('make.keep' if len(plan.names) > 1 else 'make.keep.one')}")
     screen.tell(say("change.old" if is_extendable else "change.old.renewed"))
     screen.tell(f"{say('change.mixed')} {say('change.thief')}")
     screen.choose(say("screen.end"), {"e": None})

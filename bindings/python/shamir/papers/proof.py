@@ -47,7 +47,7 @@ def _show(screen: Screen, made: Made) -> None:
     screen.tell(say("noted.new"))
     screen.tell(say("noted.own" if made.is_own else "noted.drawn"))
     screen.tell(say("noted.apart" if made.has_passphrase else "noted.papers"))
-    screen.tell(say("proof.next"))
+    screen.tell(say("proof.next.both" if made.has_passphrase else "proof.next"))
     screen.pause(say("noted.done.own" if made.is_own else "noted.done"))
     screen.clear(say("proof.title"))
     screen.tell(say("proof.why"))
