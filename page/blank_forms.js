@@ -22,16 +22,14 @@ export async function blankForms(desk) {
   const named = tick(say("blank.named"));
   named.field.checked = true;
   const children = [paragraph(say("blank.intro")), plan.element, words, named.box];
-  let fault = "";
+  const take = () => planFault(desk, plan.plan);
   for (;;) {
-    const answer = await ask(say("blank.title"), [fault ? paragraph(fault, "fault") : null, ...children], [
-      { key: "print", label: say("blank.print"), kind: "primary" },
+    const answer = await ask(say("blank.title"), children, [
+      { key: "print", label: say("blank.print"), kind: "primary", take },
       { key: "back", label: say("back"), kind: BACK },
     ]);
     clearForms();
     if (answer === "back") return;
-    fault = await planFault(desk, plan.plan);
-    if (fault !== "") continue;
     printForms(plan.plan, named.field.checked ? planNames(plan.plan) : [""], count);
   }
 }

@@ -5,7 +5,7 @@ import { askForMore, askWhatNext, collectPapers } from "./collect.js";
 import { element, paragraph } from "./dom.js";
 import { askToDrill, runDrill, saidCount, toldVerdict, warnedTime } from "./drill.js";
 import { askPassphrase } from "./passphrase.js";
-import { notedPlan, planText } from "./plan.js";
+import { notedPlan, planNames, planText } from "./plan.js";
 import { askPlan, PlanChoice } from "./plan_choice.js";
 import { saidError, saidRefusal } from "./refusals.js";
 import { say } from "./say.js";
@@ -59,7 +59,7 @@ async function makeAnew(desk) {
     if (found === null) return null;
     const { status, kinds } = found;
     if (status.enough) setSteps(stepsOf(kinds[0]));
-    const tooFew = async () => askForMore(say("recover.few"), [paragraph(say("recover.too_few"), "bad"), await saidLeftOut(desk)], status, kinds);
+    const tooFew = async () => askForMore(say("recover.few"), [paragraph(say("recover.too_few")), await saidLeftOut(desk)], status, kinds);
     const make = () => (kinds[0].extendable ? split(desk, chosen) : renew(desk, chosen, kinds[0]));
     const answer = status.enough ? await make() : await tooFew();
     if (answer === "end") return null;
@@ -192,13 +192,14 @@ async function drillBeside(desk, made, given) {
   const old = await runDrill(desk, oldStatus, { title: say("change.work"), noted, isOld: true });
   if ("refused" in old) return { answer: "again", told: saidRefusal(old.refused) };
   if (old.result === "other" || old.result === "none") return { answer: "again", told: old.sentences.join(" ") };
-  if (old.result !== "good") return tellUnlike(old, say("change.old.wrong"));
+  if (old.result !== "good") return tellUnlike(old, say("change.old.wrong"), { papers: "old" });
   const verdict = await runDrill(desk, status, { title: say("change.work.new"), noted: noted || (old.fingerprint ?? ""), isOwn: noted === "", isNew: true });
   if ("refused" in verdict) return { answer: "again", told: saidRefusal(verdict.refused) };
   if (verdict.result === "good") return { answer: await tellDone(verdict, made, given), told: "" };
   // An extendable backup gives another secret only if the engine failed.
   const isOther = verdict.result === "other" && !made.kind.extendable;
-  return isOther ? tellUnlike({ ...verdict, sentences: [say("change.other")] }, say("change.other.then"), true) : tellUnlike(verdict, say("change.broken"));
+  if (!isOther) return tellUnlike(verdict, say("change.broken"));
+  return tellUnlike({ ...verdict, sentences: [say("change.other")] }, say("change.other.then"), { mayRetry: true });
 }
 
 /**
@@ -210,22 +211,25 @@ async function drillBeside(desk, made, given) {
  */
 function tellDone(verdict, { plan, kind: { extendable } }, given) {
   setUnfinished("");
+  // Without the flag, the new papers are made with one passphrase. With a mistyped one, old and new papers give the same wrong secret.
+  const isUnproved = !given && !extendable;
   const told = [
     toldVerdict(verdict),
     paragraph(say("change.same"), "note"),
-    !given && extendable ? paragraph(say(given === null ? "change.bare.noted" : "change.noted.first")) : null,
+    isUnproved ? paragraph(say("change.unnoted"), "note") : null,
+    given ? null : paragraph(say(given === null ? "change.bare.noted" : "change.noted.first"), "note"),
     paragraph(say("change.restore"), "note"),
     element("h2", {}, say("change.new.title")),
     paragraph(notedPlan(plan), "sentence"),
+    paragraph(say(planNames(plan).length === 1 ? "make.keep.one" : "make.keep")),
+    verdict.table,
     element("h2", {}, say("change.old.title")),
     paragraph(say(extendable ? "change.old" : "change.old.renewed")),
-    !given && !extendable ? paragraph(say("change.unnoted")) : null,
     paragraph(say("change.mixed")),
     paragraph(say("change.thief")),
-    verdict.table,
     paragraph(say("close")),
   ];
-  return ask(say("change.done"), told, [{ key: "end", label: say("end"), kind: "primary" }]);
+  return ask(say(isUnproved ? "change.done.unproved" : "change.done"), told, [{ key: "end", label: say("end"), kind: "primary" }]);
 }
 
 /**
@@ -233,13 +237,14 @@ function tellDone(verdict, { plan, kind: { extendable } }, given) {
  *
  * @param {Verdict} verdict
  * @param {string} next what to do
- * @param {boolean} [mayRetry] whether another passphrase may show it
+ * @param {{papers?: "old" | "new", mayRetry?: boolean}} what which papers the drill was of, and whether another passphrase may show it
  * @returns {Promise<{answer: "end" | "again", told: string}>}
  */
-async function tellUnlike(verdict, next, mayRetry = false) {
+async function tellUnlike(verdict, next, { papers = "new", mayRetry = false } = {}) {
   if (verdict.result === "stopped") return { answer: "again", told: say("change.stopped") };
   const again = { key: /** @type {const} */ ("again"), label: say("proof.again"), kind: "primary" };
-  const told = [toldVerdict(verdict), paragraph(next), verdict.table];
+  // Old and new papers have the same names.
+  const told = [element("h2", {}, say(`change.${papers}.title`)), toldVerdict(verdict), verdict.table, paragraph(next, "note")];
   const answer = await ask(say("change.unproved"), told, [...(mayRetry ? [again] : []), { key: /** @type {const} */ ("end"), label: say("end") }]);
   return { answer, told: "" };
 }

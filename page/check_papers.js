@@ -39,7 +39,7 @@ export async function collectAndCheck(desk, what, saidFew) {
   const [papers, ...steps] = what.steps;
   for (;;) {
     setStep(papers);
-    const found = await collectPapers(desk, what);
+    const found = await collectPapers(desk, { ...what, task: "check" });
     if (found === null) return;
     const { status, kinds } = found;
     const tooFew = async () => askForMore(say("check.done.few"), [...saidFew(kinds), await saidLeftOut(desk)], status, kinds);
@@ -49,13 +49,15 @@ export async function collectAndCheck(desk, what, saidFew) {
 }
 
 /**
- * Returns what says how many papers were begun and aren't among the others, or null if there are none.
+ * Returns what says which papers were begun and aren't among the others, or null if there are none.
  *
  * @param {Desk} desk
  */
 export async function saidLeftOut(desk) {
-  const count = await desk.ask("leftOut");
-  return count ? paragraph(counted(count, "left"), "bad") : null;
+  const { unsound, names } = await desk.ask("leftOut");
+  if (unsound + names.length === 0) return null;
+  const sound = names.length ? paragraph(say(`left.sound.${names.length === 1 ? "one" : "many"}`, { names: names.join(", ") }), "note") : null;
+  return element("div", {}, unsound ? paragraph(counted(unsound, "left"), "bad") : null, sound);
 }
 
 /**
@@ -89,8 +91,10 @@ export async function drillWithPassphrase(desk, status, kind, { title, passphras
       fault = saidRefusal(verdict.refused);
       continue;
     }
-    const anew = [...saidRepaired(verdict, noted, repaired), ...saidWritten(verdict, noted, written)];
-    const answer = await tellVerdict(verdict, noted, { ...saidTried(verdict, status), left: await saidLeftOut(desk), anew });
+    const again = saidWritten(verdict, noted, written);
+    const anew = [...saidRepaired(verdict, noted, repaired), ...again];
+    const papers = { ...saidTried(verdict, status), left: await saidLeftOut(desk), anew, isWritten: again.length > 0 };
+    const answer = await tellVerdict(verdict, noted, papers);
     if (answer !== "again") return answer;
     fault = "";
   }
@@ -101,10 +105,11 @@ export async function drillWithPassphrase(desk, status, kind, { title, passphras
  *
  * @param {Verdict} verdict
  * @param {string} noted
- * @param {{tried: HTMLElement | null, untried: HTMLElement | null, left: HTMLElement | null, anew: HTMLElement[]}} papers what is said
- *   of the papers that were tried, of those that no quorum has, of those that were left out, and of those that were written anew
+ * @param {{tried: HTMLElement | null, untried: HTMLElement | null, left: HTMLElement | null, anew: HTMLElement[], isWritten: boolean}} papers
+ *   what is said of the papers that were tried, of those that no quorum has, of those that were left out, and of those that were written
+ *   anew. `isWritten` says that some of these were written from others
  */
-function tellVerdict(verdict, noted, { tried, untried, left, anew }) {
+function tellVerdict(verdict, noted, { tried, untried, left, anew, isWritten }) {
   const { result, fingerprint, hasPassphrase, table } = verdict;
   const isGood = result === "good";
   // Without a noted fingerprint, no result is known to be good.
@@ -122,7 +127,7 @@ function tellVerdict(verdict, noted, { tried, untried, left, anew }) {
     paragraph(say("close")),
   ];
   const next = { good: "end", stopped: "again", other: "again", none: "again", some: "papers", several: "papers" }[result];
-  const good = !isNoted ? "same" : left || untried ? "left_out" : "good";
+  const good = !isNoted ? "same" : left || untried ? "left_out" : isWritten ? "written" : "good";
   const wrong = result === "other" && !hasPassphrase ? "other.none" : result;
   return askWhatNext(say(`check.done.${isGood ? good : wrong}`), told, next, isGood && isNoted);
 }

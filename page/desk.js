@@ -5,7 +5,7 @@ import { renewed } from "./anew.js";
 import { hex, unhex, zero } from "./bytes.js";
 import { mix } from "./dice.js";
 import { judge } from "./judge.js";
-import { isSame, kindOf, wordsIn } from "./kind.js";
+import { isSame, kindOf, nameOf, wordsIn } from "./kind.js";
 import { isBegun, resembles } from "./left_out.js";
 import { selfTest } from "./self_test.js";
 
@@ -97,9 +97,11 @@ function leaveOut({ line }) {
   zero(...(isBegun(line) ? earlier : [line]));
 }
 
-/** Returns how many papers were begun, and aren't here. */
+/** Returns how many papers were begun and aren't here because they aren't sound, and the names of those that are sound. */
 function leftOut() {
-  return held.left.filter((line) => !held.papers.some((paper) => resembles(line, paper))).length;
+  const left = held.left.filter((line) => !held.papers.some((paper) => resembles(line, paper)));
+  const names = left.flatMap((line) => nameOf(engine, line));
+  return { unsound: left.length - names.length, names };
 }
 
 /**

@@ -181,6 +181,8 @@ export function choice(legend, options, first, onChoose) {
       it.tabIndex = at === index ? 0 : -1;
     });
     onChoose(options[index].key);
+    // As a field does when it changes.
+    buttons[index].dispatchEvent(new Event("input", { bubbles: true }));
   };
   const move = (/** @type {KeyboardEvent} */ event) => {
     const step = { ArrowDown: 1, ArrowRight: 1, ArrowUp: -1, ArrowLeft: -1 }[event.key];

@@ -13,11 +13,11 @@ import { announce, ask, show } from "./screen.js";
 /** @typedef {import("./desk.js").Kind} Kind */
 /**
  * What a drill found: no fault, or that it was stopped, or that all quorums give another secret than the expected one, that none
- * gives it, that some don't, or that they give several secrets. With it the sentences that say so, the papers that were tried, those of
- * them that are in a right quorum, whether a passphrase was typed, whether the secret was compared with what the owner noted, and the
- * table of quorums.
+ * gives it, that some don't, or that they give several secrets. With it how many quorums were tried, if not all were, the sentences that
+ * say what was found, the papers that were tried, those of them that are in a right quorum, whether a passphrase was typed, whether the
+ * secret was compared with what the owner noted, and is equal, whether something is wrong, and the table of quorums.
  *
- * @typedef {{result: "good" | "stopped" | "other" | "none" | "some" | "several", fingerprint: string | null, sentences: string[], names: string[], right: string[], hasPassphrase: boolean, isEqual: boolean, table: HTMLElement | null}} Verdict
+ * @typedef {{result: "good" | "stopped" | "other" | "none" | "some" | "several", fingerprint: string | null, part: string, sentences: string[], names: string[], right: string[], hasPassphrase: boolean, isEqual: boolean, isWrong: boolean, table: HTMLElement | null}} Verdict
  */
 
 /** @typedef {{noted: string, isOwn: boolean, isNew: boolean, hasPassphrase: boolean}} Asked the fingerprint that is expected, and what else a verdict depends on */
@@ -169,11 +169,15 @@ class Table {
   }
 
   #say() {
-    const told = say("drill.tried", { tried: said(this.tried.length), total: said(this.#total) });
-    this.#progress.textContent = told;
+    this.#progress.textContent = this.#told;
     if (performance.now() - this.#announced < ANNOUNCED_EVERY) return;
     this.#announced = performance.now();
-    announce(told);
+    announce(this.#told);
+  }
+
+  /** How many quorums were tried so far. */
+  get #told() {
+    return say("drill.tried", { tried: said(this.tried.length), total: said(this.#total) });
   }
 
   /** @param {Tried} tried */
@@ -206,12 +210,14 @@ class Table {
     const { result, right, sentences } = verdictOf(this.tried, this.#total, asked);
     if (this.tried.length === 0) sentences.length = 0;
     const isWhole = !isStopped && BigInt(this.tried.length) === this.#total;
-    if (!isWhole) sentences.unshift(say("drill.part", { tried: said(this.tried.length), total: said(this.#total) }));
+    const part = isWhole ? "" : this.#told;
     const fingerprint = fingerprints(this.tried)[0]?.[0] ?? null;
     // Green says that something was compared with what the owner noted, and is equal.
     const isEqual = result === "good" && !isStopped && asked.noted !== "" && !asked.isOwn;
+    const isWrong = result !== "good" && this.tried.length > 0;
     const table = this.tried.length ? this.#shown(isStopped || result !== "good") : null;
-    return { result: isStopped ? "stopped" : result, fingerprint, sentences, names: namesOf(this.tried), right, hasPassphrase: asked.hasPassphrase, isEqual, table };
+    const told = { part, sentences, isEqual, isWrong, table };
+    return { result: isStopped ? "stopped" : result, fingerprint, names: namesOf(this.tried), right, hasPassphrase: asked.hasPassphrase, ...told };
   }
 
   /**
@@ -227,11 +233,12 @@ class Table {
 /**
  * Returns what says what a drill found, and what a quorum is.
  *
- * @param {Pick<Verdict, "result" | "sentences" | "isEqual">} verdict
+ * @param {Pick<Verdict, "part" | "sentences" | "isEqual" | "isWrong">} verdict
  */
-export function toldVerdict({ result, sentences, isEqual }) {
-  const kind = result !== "good" ? "bad" : isEqual ? "good" : "note";
-  return element("div", { class: "verdict" }, ...sentences.map((text) => paragraph(text, kind)), paragraph(say("quorum.what"), "hint"));
+export function toldVerdict({ part, sentences, isEqual, isWrong }) {
+  const kind = isWrong ? "bad" : isEqual ? "good" : "note";
+  const tried = part ? paragraph(part, "note") : null;
+  return element("div", { class: "verdict" }, tried, ...sentences.map((text) => paragraph(text, kind)), paragraph(say("quorum.what"), "hint"));
 }
 
 /**

@@ -54,6 +54,21 @@ export function kindOf(engine, line) {
 }
 
 /**
+ * Returns the name of a paper, or none if it isn't sound.
+ *
+ * @param {Engine} engine
+ * @param {Uint8Array} line
+ */
+export function nameOf(engine, line) {
+  try {
+    return [kindOf(engine, line).name];
+  } catch (error) {
+    if (error instanceof Refusal) return [];
+    throw error;
+  }
+}
+
+/**
  * Whether two lines spell the same share.
  *
  * @param {Engine} engine

@@ -43,7 +43,8 @@ async function letNote({ fingerprint, isOwn, hasPassphrase }) {
   setStep(6);
   const where = paragraph(say(hasPassphrase ? "noted.apart" : "noted.papers"));
   const shown = element("p", { class: "fingerprint" }, fingerprint);
-  const noting = [paragraph(say("noted.new")), shown, paragraph(say(isOwn ? "noted.own" : "noted.drawn")), where, paragraph(say("proof.next"), "hint")];
+  const next = paragraph(say(hasPassphrase ? "proof.next.both" : "proof.next"), "hint");
+  const noting = [paragraph(say("noted.new")), shown, paragraph(say(isOwn ? "noted.own" : "noted.drawn")), where, next];
   const skip = isOwn ? [{ key: "skip", label: say("noted.skip") }] : [];
   const answer = await ask(say(isOwn ? "noted.title.own" : "noted.title"), noting, [{ key: "go", label: say("noted.done"), kind: "primary" }, ...skip]);
   return answer === "skip" ? "" : null;
@@ -91,7 +92,8 @@ async function drillWith(desk, made, noted) {
  * @param {Made} made
  * @returns {Promise<"again" | "end">}
  */
-function tellFailed({ result, sentences, isEqual, hasPassphrase, table }, made) {
+function tellFailed(verdict, made) {
+  const { result, sentences, hasPassphrase, table } = verdict;
   const which = !made.hasPassphrase ? "proof.passphrase.without" : hasPassphrase ? "proof.passphrase" : "proof.passphrase.none";
   const then = made.hasPassphrase ? "proof.passphrase.then" : "proof.passphrase.without.then";
   const [why, next, again] =
@@ -99,6 +101,6 @@ function tellFailed({ result, sentences, isEqual, hasPassphrase, table }, made) 
       ? [[say(which)], say(then), say("proof.again")]
       : [sentences, say(result === "stopped" ? "make.unproved" : "make.failed"), result === "stopped" ? say("make.again") : ""];
   const ways = again ? [{ key: /** @type {const} */ ("again"), label: again, kind: "primary" }] : [];
-  const told = [toldVerdict({ result, sentences: why, isEqual }), paragraph(next), table];
+  const told = [toldVerdict({ ...verdict, sentences: why }), paragraph(next), table];
   return ask(say("make.failed.title"), told, [...ways, { key: /** @type {const} */ ("end"), label: say("end") }]);
 }

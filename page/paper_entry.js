@@ -96,6 +96,7 @@ export class PaperEntry {
   /** Takes the answer away that an earlier state of the fields got. What the engine refused stays until the next answer. */
   #changed() {
     this.#remember([]);
+    this.element.classList.remove("foreign");
     if (this.#isMissing || this.#onChange) this.say("");
     this.#onChange?.();
   }
@@ -274,11 +275,11 @@ export class PaperEntry {
   /**
    * Returns what is wrong before the engine is asked, and the field to go to if there is one, or null.
    *
-   * @returns {{told: string, field?: WordField} | null}
+   * @returns {{told: string, field?: WordField, isForeign?: boolean} | null}
    */
   #missing() {
     const words = this.#typed;
-    if (seemsBip39(this.#list, words)) return { told: say("entry.bip39", { count: words.length }) };
+    if (seemsBip39(this.#list, words)) return { told: say("entry.bip39", { count: words.length }), isForeign: true };
     const empty = this.#fields.findIndex((field) => field.word === "");
     if (empty < 0) return null;
     if (words.length === 0) return { told: say("entry.nothing") };
@@ -296,6 +297,7 @@ export class PaperEntry {
     const missing = this.#missing();
     if (missing !== null) {
       missing.field?.focus();
+      this.element.classList.toggle("foreign", missing.isForeign === true);
       this.onMissing();
       this.say(missing.told, true);
       this.#isMissing = true;

@@ -47,12 +47,12 @@ export function saidPlan(plan) {
   if (plan.groups.length === 1) {
     const [group] = plan.groups;
     if (group.members === 1) return say("plan.sentence.one");
-    if (group.needed === group.members) return say("plan.sentence.each", { members: group.members });
+    if (group.needed === group.members) return say(group.members === 2 ? "plan.sentence.both" : "plan.sentence.each", { members: group.members });
     return say("plan.sentence.any", group);
   }
   const groups = plan.groups.map((group, at) => say("plan.group", { group: at, members: saidMembers(group) })).join("; ");
   const count = plan.groups.length;
-  const which = plan.needed === count ? "all_groups" : plan.needed === 1 ? "one_group" : "groups";
+  const which = plan.needed === count ? (count === 2 ? "both_groups" : "all_groups") : plan.needed === 1 ? "one_group" : "groups";
   const head = say(`plan.sentence.${which}`, { needed: plan.needed, count });
   return `${head} ${groups}.`;
 }

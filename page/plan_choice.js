@@ -60,6 +60,7 @@ export class PlanChoice {
     this.#dangers.textContent = dangers;
     this.#dangers.hidden = dangers === "";
     this.#picture.replaceChildren(planPicture(this.plan));
+    this.element.dispatchEvent(new Event("input", { bubbles: true }));
   }
 
   /** Draws the groups again, and puts the focus back on the button that was pressed, or beside it if it can't be pressed again. */
@@ -131,17 +132,16 @@ export async function planFault(desk, plan) {
  */
 export async function askPlan(desk, chosen, { title, step }) {
   setStep(step);
-  let fault = "";
+  const take = () => planFault(desk, chosen.plan);
   for (;;) {
     const hints = ["plan.short", "names.sentence"].map((key) => paragraph(say(key), "hint"));
-    const children = [fault ? paragraph(fault, "fault") : null, paragraph(say("plan.what")), chosen.element, ...hints];
+    const children = [paragraph(say("plan.what")), chosen.element, ...hints];
     const answer = await ask(title, children, [
-      { key: "go", label: say("continue"), kind: "primary" },
+      { key: "go", label: say("continue"), kind: "primary", take },
       { key: "back", label: say("back"), kind: BACK },
     ]);
     if (answer === "back") return false;
-    fault = await planFault(desk, chosen.plan);
-    if (fault === "" && (await isMeant(chosen.plan))) return true;
+    if (await isMeant(chosen.plan)) return true;
   }
 }
 

@@ -26,7 +26,7 @@ export async function recoverSecret(desk) {
     const found = await collectPapers(desk, { title: say("recover.title"), intro: say("recover.intro") });
     if (found === null) return;
     const { status, kinds } = found;
-    const tooFew = async () => askForMore(say("recover.few"), [paragraph(say("recover.too_few"), "bad"), await saidLeftOut(desk)], status, kinds);
+    const tooFew = async () => askForMore(say("recover.few"), [paragraph(say("recover.too_few")), await saidLeftOut(desk)], status, kinds);
     const answer = status.enough ? await recoverFrom(desk, kinds[0]) : await tooFew();
     if (answer === "end") return;
   }
@@ -53,7 +53,7 @@ async function recoverFrom(desk, kind) {
     const { fingerprint, refused, text } = await recovered(desk, kind, noted);
     fault = refused === Code.PASSPHRASE ? text : "";
     if (fault !== "") continue;
-    const failed = [paragraph(text, "bad"), paragraph(say("close"))];
+    const failed = [paragraph(text, refused ? "bad" : "note"), paragraph(say("close"))];
     const answer = fingerprint === "" ? await askWhatNext(say("recover.failed"), failed, refused ? "papers" : "again") : await tell(desk, noted, fingerprint);
     if (answer !== "again") return answer;
   }

@@ -86,6 +86,7 @@ export function conceal() {
 function leave() {
   conceal();
   for (const field of main.querySelectorAll("input")) field.value = "";
+  main.oninput = null;
   main.replaceChildren();
 }
 
@@ -144,6 +145,8 @@ export function ask(title, children, answers, after = []) {
     const back = buttons.find((it) => it.className === BACK) ?? null;
     show(title, back, ...children, fault, element("div", { class: "buttons" }, ...buttons.filter((it) => it !== back)), ...after);
     goOnByEnter(buttons.find((it) => it.classList.contains("primary")));
+    // What is missing ends with the next change of a field.
+    main.oninput = () => (fault.textContent = "");
   });
 }
 

@@ -82,12 +82,16 @@ def check_left_out(page, see):
     end(page)
     begin(page, "recover")
     take(page, papers[:1])
+    paste(page, SOUND_PAPER)
+    page.wait_text(say("refused.21"))
+    page.push(say("entry.empty"))
     page.go_to("textbox", say("entry.word", number=1))
     page.type(" ".join(papers[1].split()[:12]) + " ")
     page.push(say("collect.end"))
     page.push(say("collect.unread.drop"))
     page.wait_title(say("recover.few"))
-    page.wait_text(counted(1, "left"))
+    for text in (counted(1, "left"), say("left.sound.one", names="0.0")):
+        page.wait_text(text)
     end(page)
 
 

@@ -64,7 +64,8 @@ def type_again(page, label, text=""):
 def write(page, see, old, is_checked=False):
     """Writes the new papers down, and types them back. An old paper isn't taken for a new one. Returns the new ones."""
     page.wait_title(say("change.forms"))
-    page.wait_text(say("change.mark"))
+    for text in (say("change.mark"), say("forms.print")):
+        page.wait_text(text)
     pictures(page, see, "pen and paper")
     page.push(say("forms.go"))
     new = []
@@ -117,9 +118,10 @@ def finish(page):
         raise Failed("the page showed the secret")
 
 
-def check_done(page, see, what, texts, green):
-    page.wait_title(say("change.done"))
-    for text in (*texts, say("change.same"), say("change.restore"), say("change.mixed"), say("change.thief")):
+def check_done(page, see, what, texts, green, title="change.done"):
+    page.wait_title(say(title))
+    keep = say("make.keep").split(". ")[1]
+    for text in (*texts, keep, say("change.same"), say("change.restore"), say("change.mixed"), say("change.thief")):
         page.wait_text(text)
     if page.text().index(say("change.restore")) > page.text().index(say("change.old.title")):
         raise Failed("what is to be destroyed is told before what is to be done first")
@@ -230,8 +232,13 @@ def check_renewed(page, see):
             answer_passphrase(page, PASSPHRASE, noted)
         page.push(say("drill.start"))
         verdict = say(f"verdict.all.{'noted' if noted else 'own'}.new", quorums=counted(3, "quorum"), fingerprint=FINGERPRINT)
-        texts = [verdict, say("change.old.renewed"), *([] if noted else [say("change.unnoted")])]
-        check_done(page, see, f"done, not extendable, {wallet}", texts, [verdict] if noted else [])
+        if noted:
+            check_done(page, see, f"done, not extendable, {wallet}", [verdict, say("change.old.renewed")], [verdict])
+        else:
+            texts = [verdict, say("change.noted.first"), say("change.old.renewed")]
+            check_done(page, see, f"done, not extendable, {wallet}", texts, [], "change.done.unproved")
+            if page.text().index(say("change.unnoted")) > page.text().index(say("change.restore")):
+                raise Failed("that the old papers stay is told after what is to be done")
         finish(page)
 
 
@@ -242,6 +249,7 @@ def check_refused(page, see):
     begin(page, "replace")
     page.choose(say("replace.other"))
     page.push(say("continue"))
+    page.wait_title(say("replace.new.title"))
     page.wait_text(say("replace.new.change"))
     pictures(page, see, "a lost paper")
     page.push(say("replace.new.change.go"))
@@ -275,6 +283,8 @@ def check_wrong(page, see):
     for text in (say("verdict.some", wrong=2, quorums=counted(3, "quorum")), say("verdict.suspects.one", names="0.2"), say("change.old.wrong")):
         page.wait_text(text)
     check_green(page, [])
+    if page.text().index(say("change.old.title")) > page.text().index(say("drill.caption")):
+        raise Failed("nothing above the table says that its papers are the old ones")
     pictures(page, see, "a wrong old paper")
     finish(page)
 

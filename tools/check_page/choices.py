@@ -50,11 +50,15 @@ def check_wallet(page, see):
     page.wait_text(say("wallet.missing"))
     page.wait_text(f"only shamir {VERSION} was tried")
     see("which wallet")
+    page.choose(say("wallet.older"))
+    if say("wallet.missing") in page.text():
+        raise Failed("what was missing stays after it was chosen")
     page.push(say("back"))
     page.wait_title(say("make.plan"))
     for wallet in ("unknown", "older", "flag"):
         choose_wallet(page, wallet, 33)
-        page.wait_text(say("secret.new.hint", bytes=32, words=33))
+        for text in (say("secret.new.hint", bytes=32, words=33), say("passphrase.new")):
+            page.wait_text(text)
         page.push(say("back"))
         page.wait_title(say("make.wallet"))
         for chosen in (say(f"wallet.{wallet}"), say("entry.words", count=33)):
@@ -299,6 +303,8 @@ def check_what(page, see):
     page.wait_text(say("entry.bip39", count=12))
     if page.evaluate("document.querySelectorAll('.told li').length"):
         raise Failed("what was said of another paper stays beside a phrase of BIP-39")
+    if page.evaluate("[...document.querySelectorAll('.offers')].some((it) => it.checkVisibility())"):
+        raise Failed("words of SLIP-0039 are offered in place of those of BIP-39")
     see("a phrase of BIP-39")
     page.push(say("clear"))
     page.wait_title(say("home.title"))
@@ -399,7 +405,8 @@ def check_help(page, see):
     if asked != 10 or say("help.lost.answer") in page.text():
         raise Failed(f"the first screen has {asked} questions, or an answer that wasn't asked for")
     page.evaluate("for (const it of document.querySelectorAll('.help details')) it.open = true; null")
-    page.wait_text(say("help.heir.answer"))
+    for text in (say("help.heir.answer"), say("help.lost.answer")):
+        page.wait_text(text)
     see("help")
     page.evaluate("for (const it of document.querySelectorAll('.help details')) it.open = false; null")
     begin(page, "what")

@@ -128,7 +128,7 @@ def replace(page, see):
     page.push(say("replace.end"))
     page.wait_title(say("replace.passphrase"))
     answer_passphrase(page, PASSPHRASE, FINGERPRINT)
-    drill(page, "check.done.good")
+    drill(page, "check.done.written")
     page.wait_text(say("replace.right.one", names="0.1"))
 
 

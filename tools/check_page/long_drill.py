@@ -2,6 +2,7 @@
 import math
 
 from browsers import Failed
+from choices import check_green
 from refusals import SOUND, changed, paste
 from tasks import answer_passphrase, begin, choose_wallet, end, fingerprint_of, plain
 from texts import say
@@ -34,8 +35,11 @@ def check_big(page, see):
     page.push(say("drill.start"))
     # The first 1,000 quorums have the papers 0.0 to 0.3, 1.0 to 1.7 and 2.0 to 2.7, so one more is tried with each of 0.4 to 0.7.
     tried = FIRST + MEMBERS - NEEDED
-    page.wait_text(say("drill.part", tried=f"{tried:,}", total=total))
-    page.wait_text(say("verdict.tried.noted", quorums=say("quorum.many", n=f"{tried:,}"), fingerprint=fingerprint))
+    page.wait_text(say("drill.tried", tried=f"{tried:,}", total=total))
+    verdict = say("verdict.tried.noted", fingerprint=fingerprint)
+    page.wait_text(verdict)
+    # A count is no comparison.
+    check_green(page, [verdict])
     if "All quorums" in page.text():
         raise Failed("the page says that all quorums were tried")
     see("drill of too many quorums")
@@ -90,8 +94,8 @@ def check_stop_drill(page, see):
     page.push(say("stop"))
     page.wait_title(say("check.done.stopped"))
     verdict = page.evaluate("[...document.querySelectorAll('.verdict .bad, .verdict .good, .verdict .note')].map((it) => it.innerText).join(' ')")
-    if verdict.strip() != say("drill.part", tried=0, total=1):
-        raise Failed(f"a drill that was stopped says {verdict!r}")
+    if verdict.strip() != say("drill.tried", tried=0, total=1) or page.evaluate("document.querySelectorAll('.bad').length"):
+        raise Failed(f"a drill that was stopped says {verdict!r}, or says that something is wrong")
     see("a drill that was stopped")
     page.wait_text(say("check.stopped"))
     end(page)

@@ -181,7 +181,7 @@ def check_chosen(page, see):
         if not page.has_focus(page.node("button", focused)):
             raise Failed(f"after {name!r}, the focus is lost")
     page.push(f"{say('plan.fewer')}: {say('plan.members', group=0)}")
-    page.wait_text(say("plan.sentence.each", members=2))
+    page.wait_text(say("plan.sentence.both"))
     for wallet in ("flag", "older"):
         page.push(say("continue"))
         page.push(say("plan.sure.yes"))

@@ -80,7 +80,8 @@ def check_refused():
         owner.passphrase(PASSPHRASE, FINGERPRINT)
         owner.wait(say("next.good"))
         owner.expect(say("check.done.left_out"))
-        owner.expect(counted(1, "left"))
+        owner.expect(say("left.sound.one", names="0.0"))
+        silent(owner, counted(1, "left"))
         end_by_keys(owner)
 
 
@@ -331,7 +332,7 @@ def check_lost():
         owner.answer(paper_prompt(7), "")
         owner.passphrase("", fingerprint_of(papers[:3] + papers[5:], ""))
         owner.wait(say("next.good"))
-        owner.expect(say("check.done.good"))
+        owner.expect(say("check.done.written"))
         owner.answer(say("next.good"), "e")
         owner.end(0)
 

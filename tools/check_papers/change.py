@@ -71,6 +71,7 @@ def check_unnoted():
             owner.wait(say("screen.end"))
             owner.expect(say("change.agree"))
             owner.expect(say(key))
+            owner.expect(say("change.done" if is_extendable else "change.done.unproved"))
             silent(owner, "[ok]")
             owner.answer(say("screen.end"), "e")
             owner.end(0)
@@ -84,6 +85,7 @@ def check_unnoted():
         owner.passphrase(PASSPHRASE, "")
         owner.wait(say("screen.end"))
         owner.expect(say("change.repaired"))
+        owner.expect(say("change.done.unproved"))
         end_by_keys(owner)
 
 

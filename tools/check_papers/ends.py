@@ -138,7 +138,7 @@ def check_stopped_drill():
         stop(owner)
         owner.wait(say("next.again"))
         owner.expect(say("check.done.stopped"))
-        owner.expect(say("drill.part", tried=0, total=4))
+        owner.expect(say("drill.tried", tried=0, total=4))
         owner.expect(say("time.long", exponent=9, time="").split("about")[0])
         owner.answer(say("next.again"), "e")
         owner.end(0)

@@ -371,17 +371,17 @@ class DeskTests(unittest.TestCase):
     def test_left_out(self):
         desk = Desk()
         desk.leave_out(FIVE[0].split()[:5])
-        self.assertEqual(desk.left_out, 0)
+        self.assertEqual(len(desk.left_out), 0)
         for line in [FIVE[0], FIVE[1], FIVE[0].replace(FIVE[0].split()[8], "acid")]:
             desk.leave_out(line.split())
-        self.assertEqual(desk.left_out, 2)
+        self.assertEqual(len(desk.left_out), 2)
         for left, line in [(1, FIVE[1]), (1, FIVE[2]), (0, FIVE[0])]:
             desk.add(paper_of(line))
-            self.assertEqual(desk.left_out, left)
+            self.assertEqual(len(desk.left_out), left)
         self.assertTrue(desk.drop(desk.papers[-1].name))
-        self.assertEqual(desk.left_out, 1)
+        self.assertEqual(len(desk.left_out), 1)
         desk.clear()
-        self.assertEqual(desk.left_out, 0)
+        self.assertEqual(len(desk.left_out), 0)
 
     def test_new_papers_have_another_identifier(self):
         """Papers in place of others would be taken for one backup with these if the random bytes gave the old identifier."""

@@ -4,7 +4,7 @@ from __future__ import annotations
 from typing import Optional
 
 from shamir.papers.desk import Desk
-from shamir.papers.drill import Verdict, run_drill
+from shamir.papers.drill import Verdict, run_drill, tell_verdict
 from shamir.papers.questions import ask_passphrase
 from shamir.papers.screen import Back, Screen
 from shamir.papers.texts import say
@@ -54,7 +54,6 @@ def _drilled(screen: Screen, old: Desk, new: Desk, noted: str) -> Verdict:
 def _tries_again(screen: Screen, verdict: Verdict) -> bool:
     """Says why nothing shows that old and new papers agree, and returns whether the owner tries again."""
     screen.tell(say("change.unproved"), "strong")
-    for sentence in verdict.sentences:
-        screen.tell(sentence, "bad")
+    tell_verdict(screen, verdict, "")
     screen.tell(say("change.failed.then"))
     return screen.choose(say("make.failed.again"), {"t": True, "e": False})

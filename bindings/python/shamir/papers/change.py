@@ -8,7 +8,7 @@ from shamir.papers.agree import agree
 from shamir.papers.check import ask_next
 from shamir.papers.collect import ask_for_more, collect
 from shamir.papers.desk import Desk, Paper
-from shamir.papers.drill import Verdict
+from shamir.papers.drill import Verdict, tell_verdict
 from shamir.papers.line import wipe
 from shamir.papers.plan import Plan, noted_plan
 from shamir.papers.plan_choice import ask_plan
@@ -33,7 +33,7 @@ def change_plan(screen: Screen, desk: Desk) -> None:
         if desk.status().enough:
             typed = "" if _change(screen, desk) == "p" else None
         else:
-            typed = ask_for_more(screen, desk, say("recover.few"), say("recover.too_few"), True)
+            typed = ask_for_more(screen, desk, say("recover.few"), say("recover.too_few"))
 
 
 def _change(screen: Screen, desk: Desk) -> str:
@@ -134,15 +134,15 @@ def _tell_done(screen: Screen, desk: Desk, plan: Plan, verdict: Verdict) -> None
     """Says that the plan is changed, what the drill showed, and what to do with the old papers."""
     is_extendable, is_repaired = desk.papers[0].is_extendable, any(it.is_repaired for it in desk.papers)
     desk.clear()
-    screen.clear(say("change.done"))
-    for sentence in verdict.sentences:
-        screen.tell(sentence, "" if verdict.is_own else "good")
-    screen.tell(say("quorum.what"))
-    screen.tell(say("change.restore"), "strong")
-    screen.tell(noted_plan(plan))
     # Without the noted fingerprint, nothing shows that a passphrase or a found word was right.
-    if verdict.is_own and (is_repaired or not is_extendable):
+    is_unproved = verdict.is_own and (is_repaired or not is_extendable)
+    screen.clear(say("change.done.unproved" if is_unproved else "change.done"))
+    tell_verdict(screen, verdict, "" if verdict.is_own else "good")
+    screen.tell(say("quorum.what"))
+    if is_unproved:
         screen.tell(say("change.repaired" if is_repaired else "change.unnoted"), "strong")
+    screen.tell(say("change.restore"), "strong")
+    screen.tell(f"{noted_plan(plan)} {say('make.keep' if len(plan.names) > 1 else 'make.keep.one')}")
     screen.tell(say("change.old" if is_extendable else "change.old.renewed"))
     screen.tell(f"{say('change.mixed')} {say('change.thief')}")
     screen.choose(say("screen.end"), {"e": None})

@@ -5,7 +5,7 @@ from typing import List, Optional
 
 from shamir.papers.collect import ask_for_more, collect, tell_damaged, tell_left_out
 from shamir.papers.desk import Desk, Paper
-from shamir.papers.drill import Verdict, run_drill
+from shamir.papers.drill import Verdict, run_drill, tell_verdict
 from shamir.papers.questions import ask_passphrase
 from shamir.papers.screen import Back, Screen
 from shamir.papers.texts import one_or_many, say
@@ -25,11 +25,11 @@ def collect_and_check(screen: Screen, desk: Desk, title: str, intro: str, drill:
     few papers show."""
     typed: Optional[str] = ""
     while typed is not None:
-        collect(screen, desk, title, intro, typed=typed)
+        collect(screen, desk, title, intro, "check", typed)
         if desk.status().enough:
             typed = "" if drill_with_passphrase(screen, desk, drill) == "p" else None
         else:
-            typed = ask_for_more(screen, desk, say("check.done.few"), too_few, False)
+            typed = ask_for_more(screen, desk, say("check.done.few"), too_few)
 
 
 def drill_with_passphrase(screen: Screen, desk: Desk, title: str) -> str:
@@ -56,8 +56,7 @@ def _tell(screen: Screen, desk: Desk, verdict: Verdict, noted: str) -> str:
     # Without a noted fingerprint, no result is known to be good.
     result = "same" if verdict.result == "good" and not noted else verdict.result
     screen.tell(say(f"check.done.{_kind(desk, verdict, result)}"), "strong")
-    for sentence in verdict.sentences:
-        screen.tell(sentence, {"good": "good", "same": ""}.get(result, "bad"))
+    tell_verdict(screen, verdict, "good" if result == "good" else "")
     _tell_tried(screen, desk, verdict)
     if result in ("other", "none"):
         again = say("check.again" if verdict.has_passphrase else "check.again.none")
@@ -111,7 +110,8 @@ def _kind(desk: Desk, verdict: Verdict, result: str) -> str:
     """Returns what the heading of a result says. A good one isn't all if papers were left out, or can't be read in full."""
     if result == "good":
         is_whole = all(paper.name in verdict.names for paper in desk.papers)
-        return "left_out" if desk.left_out or not is_whole else "damaged" if desk.damaged else result
+        is_written = any(it.is_rewritten and not it.is_repaired for it in desk.papers)
+        return "left_out" if desk.left_out or not is_whole else "damaged" if desk.damaged else "written" if is_written else result
     return "other.none" if result == "other" and not verdict.has_passphrase else result
 
 

@@ -4,7 +4,7 @@ from __future__ import annotations
 from typing import Iterator, List, Optional
 
 import shamir
-from shamir.papers.desk import Desk, Paper
+from shamir.papers.desk import Desk, Paper, paper_of
 from shamir.papers.entry import Entry
 from shamir.papers.judged import begin, judge, tell_judged
 from shamir.papers.paste import Pasted, ask_whole
@@ -142,6 +142,8 @@ def said_whole(status: shamir.Status, count: int, task: str = "") -> str:
     """Says whether the papers are enough. An owner whose backup has one group needn't know of groups."""
     if count == 1 and task == "replace" and status.groups[0].threshold > 1:
         return _said_only(status, "replace.enough", "replace.not_enough")
+    if status.enough and task == "check":
+        return say("status.enough.check")
     if status.enough or count == 1:
         return _said_only(status, "status.enough", "status.not_enough")
     return say("status.not_enough", needed=counted(status.required, "whole"), here=status.complete)
@@ -161,11 +163,23 @@ def tell_damaged(screen: Screen, desk: Desk) -> None:
 
 def tell_left_out(screen: Screen, desk: Desk) -> None:
     """Reminds the owner of the papers that were begun, and that aren't among the others."""
-    if desk.left_out:
-        screen.tell(counted(desk.left_out, "left"), "bad")
+    left = desk.left_out
+    names = [name for name in map(_name_of, left) if name]
+    if len(names) < len(left):
+        screen.tell(counted(len(left) - len(names), "left"), "bad")
+    if names:
+        screen.tell(say(f"left.sound.{one_or_many(names)}", names=", ".join(names)))
 
 
-def ask_for_more(screen: Screen, desk: Desk, title: str, told: str, is_fault: bool, task: str = "") -> Optional[str]:
+def _name_of(line: str) -> str:
+    """Returns the name of a paper, or nothing if it isn't sound."""
+    try:
+        return paper_of(line).name
+    except shamir.Refusal:
+        return ""
+
+
+def ask_for_more(screen: Screen, desk: Desk, title: str, told: str, task: str = "") -> Optional[str]:
     """Says that the papers aren't enough, and what is missing. Returns what the owner has typed of the next paper, or None to end."""
     screen.clear(title)
     sound = [paper.name for paper in desk.papers if not paper.is_repaired]
@@ -174,7 +188,7 @@ def ask_for_more(screen: Screen, desk: Desk, title: str, told: str, is_fault: bo
     for paper in desk.papers:
         if paper.is_repaired:
             screen.tell(say("collect.row.repaired", name=paper.name, words=len(paper.words)), "bad")
-    screen.tell(told, "bad" if is_fault else "")
+    screen.tell(told)
     show_status(screen, desk, task)
     tell_left_out(screen, desk)
     tell_damaged(screen, desk)

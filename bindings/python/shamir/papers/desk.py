@@ -137,9 +137,9 @@ class Desk:
             self._left = [*(it for it in self._left if not resembles(it, words)), [*words]]
 
     @property
-    def left_out(self) -> int:
-        """Returns how many papers were begun, and aren't here."""
-        return sum(not any(resembles(words, paper.words) for paper in self.papers) for words in self._left)
+    def left_out(self) -> List[str]:
+        """Returns the lines of the papers that were begun, and aren't here."""
+        return [" ".join(words) for words in self._left if not any(resembles(words, paper.words) for paper in self.papers)]
 
     @property
     def damaged(self) -> List[str]:

@@ -24,7 +24,7 @@ class Verdict:
     it ('none'), that some don't ('some'), or that they give several secrets ('several'). With it the sentences that say so, the names of
     the papers that were tried, and of those that are in a right quorum, and whether a passphrase was typed. `is_own` says that the
     secret wasn't compared with what the owner noted, but with the one that was just backed up. `fingerprint` is that of the right
-    secret, as far as it is known."""
+    secret, as far as it is known. `part` says how many quorums were tried, if not all were, and `is_wrong` that one of these is wrong."""
 
     result: str
     sentences: List[str]
@@ -33,6 +33,8 @@ class Verdict:
     has_passphrase: bool = True
     is_own: bool = False
     fingerprint: str = field(default="", repr=False)
+    part: str = ""
+    is_wrong: bool = False
 
 
 def measured() -> float:
@@ -115,11 +117,19 @@ def verdict_of(
     result, sentences = _verdict(tried, total, noted, which, found) if tried else ("none", list[str]())
     if result == "other" and not has_passphrase:
         sentences = [say("verdict.other.none", quorums=counted(len(tried), "quorum"), noted=noted)]
-    if is_stopped or len(tried) != total:
-        sentences.insert(0, say("drill.part", tried=f"{len(tried):,}", total=said_total(total)))
+    part = say("drill.tried", tried=f"{len(tried):,}", total=said_total(total)) if is_stopped or len(tried) != total else ""
+    is_wrong = result != "good" and bool(tried)
     wanted = _wanted(noted, found)
     right = _names(it for it in tried if gives(it, wanted))
-    return Verdict("stopped" if is_stopped else result, sentences, _names(tried), right, has_passphrase, is_own, wanted)
+    return Verdict("stopped" if is_stopped else result, sentences, _names(tried), right, has_passphrase, is_own, wanted, part, is_wrong)
+
+
+def tell_verdict(screen: Screen, verdict: Verdict, good: str) -> None:
+    """Says how many quorums were tried, if not all were, and what they gave. `good` is the style of what isn't wrong."""
+    if verdict.part:
+        screen.tell(verdict.part)
+    for sentence in verdict.sentences:
+        screen.tell(sentence, "bad" if verdict.is_wrong else good)
 
 
 def _wanted(noted: str, found: List[Tuple[str, int]]) -> str:

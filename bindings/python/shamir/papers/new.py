@@ -4,7 +4,7 @@ from __future__ import annotations
 from typing import List, Optional, Tuple
 
 from shamir.papers.desk import Desk, Paper
-from shamir.papers.drill import Verdict
+from shamir.papers.drill import Verdict, tell_verdict
 from shamir.papers.line import wipe
 from shamir.papers.plan import Plan, noted_plan, said_plan, said_singles, said_survives
 from shamir.papers.plan_choice import ask_plan
@@ -75,8 +75,7 @@ def _create(screen: Screen, desk: Desk, plan: Plan, choices: Choices) -> Tuple[L
 def _tell_done(screen: Screen, plan: Plan, choices: Choices, verdict: Verdict) -> None:
     """Says that the backup is made, what the drill showed, and what to do now. Only what the owner noted was compared."""
     screen.clear(say("make.done"))
-    for sentence in verdict.sentences:
-        screen.tell(sentence, "" if verdict.is_own else "good")
+    tell_verdict(screen, verdict, "" if verdict.is_own else "good")
     screen.tell(say("quorum.what"))
     screen.tell(noted_plan(plan))
     screen.tell(say("make.restore"))

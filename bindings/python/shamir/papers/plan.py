@@ -60,9 +60,10 @@ def _head(plan: Plan) -> str:
         [(needed, members)] = plan.groups
         if members == 1:
             return say("plan.sentence.one")
-        return say("plan.sentence.each" if needed == members else "plan.sentence.any", needed=needed, members=members)
+        which = "any" if needed < members else "both" if members == 2 else "each"
+        return say(f"plan.sentence.{which}", needed=needed, members=members)
     count = len(plan.groups)
-    which = "all_groups" if plan.needed == count else "one_group" if plan.needed == 1 else "groups"
+    which = ("both_groups" if count == 2 else "all_groups") if plan.needed == count else "one_group" if plan.needed == 1 else "groups"
     return say(f"plan.sentence.{which}", needed=plan.needed, count=count)
 
 

@@ -5,7 +5,7 @@ from dataclasses import dataclass, field
 from typing import Optional
 
 from shamir.papers.desk import Desk
-from shamir.papers.drill import Verdict, run_drill
+from shamir.papers.drill import Verdict, run_drill, tell_verdict
 from shamir.papers.questions import ask_right, cleaned, is_fingerprint
 from shamir.papers.quorums import Tried, gives
 from shamir.papers.screen import Screen
@@ -47,7 +47,7 @@ def _show(screen: Screen, made: Made) -> None:
     screen.tell(say("noted.new"))
     screen.tell(say("noted.own" if made.is_own else "noted.drawn"))
     screen.tell(say("noted.apart" if made.has_passphrase else "noted.papers"))
-    screen.tell(say("proof.next"))
+    screen.tell(say("proof.next.both" if made.has_passphrase else "proof.next"))
     screen.pause(say("noted.done.own" if made.is_own else "noted.done"))
     screen.clear(say("proof.title"))
     screen.tell(say("proof.why"))
@@ -80,8 +80,7 @@ def _tries_again(screen: Screen, verdict: Verdict, made: Made) -> bool:
         screen.tell(say(".".join(filter(None, ["proof.passphrase", which]))), "bad")
         screen.tell(say("proof.passphrase.then" if made.has_passphrase else "proof.passphrase.without.then"))
     else:
-        for sentence in verdict.sentences:
-            screen.tell(sentence, "bad")
+        tell_verdict(screen, verdict, "")
         screen.tell(say("make.unproved" if verdict.result == "stopped" else "make.failed"), "bad")
         if verdict.result != "stopped":
             screen.pause(say("screen.next"))

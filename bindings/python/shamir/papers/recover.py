@@ -25,7 +25,7 @@ def recover_secret(screen: Screen, desk: Desk) -> None:
         if desk.status().enough:
             typed = "" if _recover(screen, desk) == "p" else None
         else:
-            typed = ask_for_more(screen, desk, say("recover.few"), say("recover.too_few"), True)
+            typed = ask_for_more(screen, desk, say("recover.few"), say("recover.too_few"))
 
 
 def _recover(screen: Screen, desk: Desk) -> str:
@@ -58,7 +58,7 @@ def tell_failed(screen: Screen, error: Union[Stopped, shamir.Refusal]) -> str:
     """Says why nothing was recovered. Returns what the owner wants then."""
     screen.tell(say("recover.failed"), "strong")
     if isinstance(error, Stopped):
-        screen.tell(say("recover.stopped"), "bad")
+        screen.tell(say("recover.stopped"))
         return ask_next(screen, "again")
     screen.tell(said_refusal(error), "bad")
     return ask_next(screen, "papers")

@@ -41,7 +41,7 @@ def _replace_destroyed(screen: Screen, desk: Desk) -> None:
             typed = _drill(screen, desk)
         elif not _may_determine(desk.status()):
             told = say("replace.none_yet.only" if desk.papers[0].group_count == 1 else "replace.none_yet")
-            typed = ask_for_more(screen, desk, say("replace.few"), told, False, "replace")
+            typed = ask_for_more(screen, desk, say("replace.few"), told, "replace")
         else:
             typed = "" if _write(screen, desk) else _drill(screen, desk)
 
@@ -94,4 +94,4 @@ def _drill(screen: Screen, desk: Desk) -> Optional[str]:
     """Drills with all papers that were typed, if they are enough. Returns what the owner has typed of the next paper, or None to end."""
     if desk.status().enough:
         return "" if drill_with_passphrase(screen, desk, say("replace.drill")) == "p" else None
-    return ask_for_more(screen, desk, say("replace.done" if desk.written else "replace.few"), say("replace.too_few"), False)
+    return ask_for_more(screen, desk, say("replace.done" if desk.written else "replace.few"), say("replace.too_few"))

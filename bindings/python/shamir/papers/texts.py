@@ -163,7 +163,7 @@ OWN: Dict[str, str] = {
     "entry.place.typed": "(you typed {word})",
     "entry.fits": "These words were found:",
     "entry.miswritten": "If the paper says what you typed, and not the word that was found, the paper is miswritten there.",
-    "entry.take.which": "Which of them bears the name that is on the paper, and can be what was meant? (1, 2, or 0 for none)",
+    "entry.take.which": "Which of them can be what was meant on the paper, and has its name, if it bears one? (1, 2, or 0 for none)",
     "what.ask": "The paper (b: back):",
     "what.next": "e: end. b: type another paper.",
     "what.repaired": "Words of paper {name} were found and not read, so only a drill shows whether it is right.",
