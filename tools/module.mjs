@@ -11,15 +11,15 @@ import { load, OF_GROUPS, Refusal } from "../bindings/js/shamir.js";
 const shamir = await load(readFileSync(process.argv[2]));
 const hex = (bytes) => Buffer.from(bytes).toString("hex");
 const ended = (lines) => lines.map((line) => `${line}\n`).join("");
+const fieldsText = (share) =>
+  `identifier ${share.id} extendable ${Number(share.extendable)} exponent ${share.exponent} group ${share.groupIndex} ` +
+  `group-threshold ${share.groupThreshold} group-count ${share.groupCount} member ${share.memberIndex} ` +
+  `member-threshold ${share.memberThreshold}`;
 
 const COMMANDS = {
   show(words, options, data) {
     const share = shamir.parse(data);
-    return (
-      `identifier ${share.id} extendable ${Number(share.extendable)} exponent ${share.exponent} group ${share.groupIndex} ` +
-      `group-threshold ${share.groupThreshold} group-count ${share.groupCount} member ${share.memberIndex} ` +
-      `member-threshold ${share.memberThreshold} value ${hex(share.value)}\n`
-    );
+    return ended([`${fieldsText(share)} value ${hex(share.value)}`]);
   },
   repair(words, options, line) {
     return ended(shamir.repair(line));
@@ -52,10 +52,11 @@ const COMMANDS = {
     return ended([...listed, "end"]);
   },
   status(words, options, lines) {
-    const { complete, required, enough, groups } = shamir.status(lines);
-    if (enough !== (complete >= required)) throw new Error("enough isn't whether the complete groups are at least the required ones");
-    const rows = groups.map(({ group, threshold, names }) => `group ${group} members ${names.length} of ${threshold} ${names.join("+")}`);
-    return ended([`groups ${complete} of ${required}`, ...rows]);
+    return statusText(shamir.status(lines));
+  },
+  judge([digits], options, lines) {
+    const { share, again, status } = shamir.judge(lines, new Uint8Array(Buffer.from(digits, "hex")));
+    return ended([`${again ? "again" : "new"} ${fieldsText(share)}`]) + statusText(status);
   },
   reissue([plan, names], options, lines) {
     return ended(shamir.reissue(plan, names, lines));
@@ -64,6 +65,13 @@ const COMMANDS = {
     return ended(shamir.resplit(plan, lines, { random: new Uint8Array(Buffer.from(random, "hex")) }));
   },
 };
+
+function statusText({ complete, required, enough, groups, text }) {
+  if (enough !== (complete >= required)) throw new Error("enough isn't whether the complete groups are at least the required ones");
+  const rows = groups.map(({ group, threshold, names }) => `group ${group} members ${names.length} of ${threshold} ${names.join("+")}`);
+  if (text !== [`groups ${complete} of ${required}`, ...rows].join("\n")) throw new Error("the text of a status isn't what its fields say");
+  return `${text}\n`;
+}
 
 function outcomeText({ secret, fingerprint, expected, mismatch }) {
   if (mismatch !== null) return mismatch === OF_GROUPS ? "digest mismatch of groups" : `digest mismatch in group ${mismatch}`;

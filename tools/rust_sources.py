@@ -11,10 +11,10 @@ FOREIGN = "ffi.rs"
 TYPES = {
     "const char *": "*const c_char", "char *": "*mut c_char", "const uint8_t *": "*const u8", "uint8_t *": "*mut u8", "size_t": "usize",
     "uint32_t": "u32", "void *": "*mut u8", "shamir_share *": "*mut Fields", "const shamir_answer *": "*const Answer",
-    "shamir_parameters *": "*mut Parameters", "const shamir_parameters *": "*const Parameters",
+    "shamir_parameters *": "*mut Parameters", "const shamir_parameters *": "*const Parameters", "shamir_judgement *": "*mut Judged",
 }
-FIELDS = {"uint8_t": "u8", "uint16_t": "u16", "uint32_t": "u32", "uint64_t": "u64"}
-STRUCTS = {"shamir_answer": "Answer", "shamir_share": "Fields", "shamir_parameters": "Parameters"}
+FIELDS = {"uint8_t": "u8", "uint16_t": "u16", "uint32_t": "u32", "uint64_t": "u64", "shamir_share": "Fields"}
+STRUCTS = {"shamir_answer": "Answer", "shamir_share": "Fields", "shamir_parameters": "Parameters", "shamir_judgement": "Judged"}
 # The crate has no use for these numbers of the header.
 UNUSED = {"NAMES_BYTES_MAX", "MNEMONIC_BYTES_MAX", "MNEMONICS_MAX", "LINE_BYTES_MAX", "FINGERPRINT_BYTES_MAX"}
 UNUSED |= {"LISTING_BYTES_ENOUGH", "STACK_BYTES", "VERSION_NUMBER"}

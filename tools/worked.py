@@ -5,6 +5,7 @@ too short, and with NULL in its place. A refusal comes before that of the room. 
 does the text's own call with such outputs.
 """
 import importlib
+import json
 import re
 from dataclasses import dataclass
 from typing import Any, Iterator, List, Optional, Sequence, Tuple, Union
@@ -14,7 +15,8 @@ plain: Any = importlib.import_module("plain")
 
 ROOM = 1024
 MARK = 0xA5
-NO_SHARE = (MARK << 8 | MARK, *[MARK] * 7)
+# The fields of a judgement, if a call leaves them as they are. Those of a share are the first eight.
+UNFILLED = (MARK << 8 | MARK, *[MARK] * 8)
 DIGITS, FINGERPRINTS, EXPECTED = range(3)
 OF_GROUPS = 16
 TOO_SHORT = 1
@@ -380,6 +382,56 @@ STATUSES: List[Row] = [
     ([], Answer(29, "no shares"), ""),
 ]
 
+# The mnemonics that are there, and the one that is judged. After the output come the fields of the judgement.
+OF_ONE, OF_FIVE_0, OF_FIVE_3, OF_FIVE_4 = (7945, 0, 0, 0, 1, 1, 0, 1), (1, 0, 0, 0, 2, 3, 0, 2), (1, 0, 0, 1, 2, 3, 0, 1), (1, 0, 0, 2, 2, 3, 0, 1)
+OF_TWO_0 = (25653, 0, 2, 0, 1, 1, 0, 2)
+HALF = "groups 0 of 2\ngroup 0 members 1 of 2 0.0\n"
+JUDGED: List[Row] = [
+    ([], ONE, done(1, 1), "groups 1 of 1\ngroup 0 members 1 of 1 0.0\n", (*OF_ONE, 0)),
+    ([], FIVE_0, done(0, 2), HALF, (*OF_FIVE_0, 0)),
+    ([FIVE_0], FIVE_0, done(0, 2), HALF, (*OF_FIVE_0, 1)),
+    ([FIVE_0], FIVE_3, done(1, 2), "groups 1 of 2\ngroup 0 members 1 of 2 0.0\ngroup 1 members 1 of 1 1.0\n", (*OF_FIVE_3, 0)),
+    (FOUR, FIVE_3, done(3, 2), "groups 3 of 2\ngroup 0 members 2 of 2 0.0+0.1\ngroup 1 members 1 of 1 1.0\ngroup 2 members 1 of 1 2.0\n", (*OF_FIVE_3, 1)),
+    (["# a note", FIVE_0, "", FIVE_3, FIVE_0], "  " + FIVE_4.upper().replace(" ", "\t") + "\r", done(2, 2),
+     "groups 2 of 2\ngroup 0 members 1 of 2 0.0\ngroup 1 members 1 of 1 1.0\ngroup 2 members 1 of 1 2.0\n", (*OF_FIVE_4, 0)),
+    # Lines of other backups don't matter, even if they can't be of one.
+    ([ONE], FIVE_0, done(0, 2), HALF, (*OF_FIVE_0, 0)),
+    ([ONE, FIVE_0, TWO_2], FIVE_0, done(0, 2), HALF, (*OF_FIVE_0, 1)),
+    ([*FIVE, TWO_2], ONE, done(1, 1), "groups 1 of 1\ngroup 0 members 1 of 1 0.0\n", (*OF_ONE, 0)),
+    ([ONE, TWO_2], TWO_0, done(1, 1), "groups 1 of 1\ngroup 0 members 2 of 2 0.0+0.2\n", (*OF_TWO_0, 0)),
+    ([FIVE_0, FORGED_0], ONE, done(1, 1), "groups 1 of 1\ngroup 0 members 1 of 1 0.0\n", (*OF_ONE, 0)),
+    # The mnemonic is judged by itself, before the others.
+    (["academia", "#" * 1025], ONE_WRONG, Answer(13, "bad checksum"), "", None),
+    ([FIVE_0], "academic academia", Answer(11, "unknown word 2", first=2), "", None),
+    ([FIVE_0], FIVE_0 + "\n", Answer(11, "unknown word 20", first=20), "", None),
+    ([FIVE_0], "# a note", Answer(11, "unknown word 1", first=1), "", None),
+    (None, None, Answer(12, "0 words make no share"), "", None),
+    # Then the lines.
+    ([ONE, "academic x"], FIVE_0, Answer(11, "unknown word 2", line=2, first=2), "", None),
+    ([FIVE_3, ONE_WRONG, "academia"], FIVE_0, Answer(13, "bad checksum", line=2), "", None),
+    ([ONE, "", "#" * 1025], FIVE_0, Answer(71, "line too long", line=3), "", None),
+    ([ONE, FIVE_0, FORGED_0], FIVE_3, Answer(28, "conflicting share 0.0", line=3), "", None),
+    ([FIVE_0, FORGED_0], FORGED_0, Answer(28, "conflicting share 0.0", line=2), "", None),
+    # Then the mnemonic beside the lines.
+    ([ONE, FIVE_0], FORGED_0, Answer(28, "conflicting share 0.0"), "", None),
+    ([FORGED_0], FIVE_0, Answer(28, "conflicting share 0.0"), "", None),
+    ([UNEVEN_0], SLOW_UNEVEN_1, Answer(23, "other exponent"), "", None),
+    ([UNEVEN_0], UNEVEN_GROUP_1, Answer(24, "other group threshold"), "", None),
+]
+
+
+def judged_vectors() -> Iterator[Row]:
+    """Yields the vectors in which a mnemonic can't join those before it: as the one that is judged, and as one of the lines."""
+    for case in json.loads((driver.ROOT / "vectors" / "vectors.json").read_text())["cases"]:
+        refused = case["right"].get("refused", {"code": 0})
+        if not 22 <= refused["code"] <= 28:
+            continue
+        lines, at = case["given"]["mnemonics"], refused["line"]
+        first, second, *_ = [*map(int, re.findall(r"\d+", refused["text"])), 0, 0]
+        yield lines[: at - 1], lines[at - 1], Answer(refused["code"], refused["text"], first=first, second=second), "", None
+        yield lines, lines[0], Answer(refused["code"], refused["text"], line=at, first=first, second=second), "", None
+
+
 # In the answers, first is the number of quorums.
 QUORUMS: List[Row] = [
     ([ONE], done(1, 0)),
@@ -569,7 +621,7 @@ class Example:
     output: bytes = b""
     room: Optional[int] = None
     mismatches: int = 0
-    share: Tuple[int, ...] = NO_SHARE
+    fields: Sequence[int] = ()
 
 
 def joined(given: Any) -> Any:
@@ -585,7 +637,7 @@ def example(call: str, arguments: Sequence[Any], answer: Answer, output: Output 
 
 def examples() -> Iterator[Example]:
     for text, answer, value, share in PARSED:
-        yield example("parse", [text], answer, bytes.fromhex(value), share=share or NO_SHARE)
+        yield example("parse", [text], answer, bytes.fromhex(value), fields=share or ())
     for plan, size, answer in NUMBERS:
         yield example("random_needed", [plan, size], answer, room=0)
     for plan, secret, key, exponent, drawn, answer, lines in CREATED:
@@ -593,11 +645,13 @@ def examples() -> Iterator[Example]:
     for lines, key, most, expected, answer, output in RECOVERED:
         yield example("recover", [lines, key, most, expected], answer, output)
     for lines, answer, output, kept in ENCRYPTED:
-        yield example("encrypted", [lines], answer, output, share=(*kept, *NO_SHARE[3:]) if kept else NO_SHARE)
+        yield example("encrypted", [lines], answer, output, fields=kept or ())
     for kept, value, key, expected, answer, output in DECRYPTED:
         yield example("decrypt", [*kept, value, key, expected], answer, output)
     for lines, key, most, after, limit, form, expected, room, answer, mismatches, output in DRILLED:
         yield example("drill", [lines, key, most, after, limit, form, expected], answer, output, room=room, mismatches=mismatches)
+    for lines, line, answer, output, fields in [*JUDGED, *judged_vectors()]:
+        yield example("judge", [lines, line], answer, output, fields=fields or ())
     for lines, answer in QUORUMS:
         yield example("quorums", [lines], answer, room=0)
     for plan, names, lines, answer, output in REISSUED:
@@ -617,10 +671,10 @@ def version() -> str:
     return str(found)
 
 
-def wanted(answer: Answer, output: bytes = b"", mismatches: int = 0, share: Sequence[int] = NO_SHARE) -> str:
-    """Returns the line that the driver writes."""
-    fields = [answer.code, mismatches, answer.line, answer.first, answer.second, len(output), *share, 0]
-    return " ".join([*map(str, fields), output.hex()])
+def wanted(answer: Answer, output: bytes = b"", mismatches: int = 0, fields: Sequence[int] = ()) -> str:
+    """Returns the line that the driver writes. Fields that the call leaves as they are can be left out at the end."""
+    numbers = [answer.code, mismatches, answer.line, answer.first, answer.second, len(output), *fields, *UNFILLED[len(fields) :], 0]
+    return " ".join([*map(str, numbers), output.hex()])
 
 
 def calls_of(it: Example) -> Iterator[Made]:
@@ -628,10 +682,10 @@ def calls_of(it: Example) -> Iterator[Made]:
     room = it.room
     if room is None:
         room = len(it.output) if it.answer.code == 0 else ROOM
-    yield driver.line(it.call, it.arguments, room or None), wanted(it.answer, it.output, it.mismatches, it.share)
+    yield driver.line(it.call, it.arguments, room or None), wanted(it.answer, it.output, it.mismatches, it.fields)
     if it.room is None and it.output:
-        yield driver.line(it.call, it.arguments, room + 1), wanted(it.answer, it.output, it.mismatches, it.share)
-        short = wanted(Answer(TOO_SHORT, "", first=room), share=it.share)
+        yield driver.line(it.call, it.arguments, room + 1), wanted(it.answer, it.output, it.mismatches, it.fields)
+        short = wanted(Answer(TOO_SHORT, "", first=room), fields=it.fields)
         yield driver.line(it.call, it.arguments, room - 1), short
         yield driver.line(it.call, it.arguments, None), short
     if it.room is None and it.answer.code not in (0, TOO_SHORT):

@@ -148,6 +148,22 @@ export class Engine {
      */
     status(lines: Lines): Status;
     /**
+     * Judges a mnemonic beside those that came before it: whether it can be taken, whether it is there already, and what its backup has
+     * with it.
+     *
+     *     shamir.judge(mnemonics.slice(0, 1), mnemonics[1]).status.enough; // true
+     *
+     * `lines` is as for `recover`, but its mnemonics may be of several backups. Those with the same identifier are taken for those of one
+     * backup. `mnemonic` is as for `parse`. The status is that of the lines with its identifier, and of itself. If the mnemonic is
+     * refused, the refusal's `line` is null. `Papers` keeps the lines.
+     *
+     * Throws a `Refusal` with one of the codes 11 to 15, 22 to 28, or 71.
+     * @param {Lines} lines
+     * @param {Text} mnemonic
+     * @returns {Judgement}
+     */
+    judge(lines: Lines, mnemonic: Text): Judgement;
+    /**
      * Returns how many quorums mnemonics have, or 2^64 - 1 if they have more.
      *
      *     shamir.quorums(mnemonics); // 3n
@@ -283,11 +299,13 @@ export type DecryptOptions = import("./types.js").DecryptOptions;
 export type DrillOptions = import("./types.js").DrillOptions;
 export type EncryptedSecret = import("./types.js").EncryptedSecret;
 export type GroupStatus = import("./types.js").GroupStatus;
+export type Judgement = import("./types.js").Judgement;
 export type Lines = import("./types.js").Lines;
 export type Outcome = import("./types.js").Outcome;
 export type RecoverOptions = import("./types.js").RecoverOptions;
 export type ResplitOptions = import("./types.js").ResplitOptions;
 export type Share = import("./types.js").Share;
+export type ShareFields = import("./types.js").ShareFields;
 export type Status = import("./types.js").Status;
 export type Text = import("./types.js").Text;
 export { Code, OF_GROUPS, Refusal } from "./refusal.js";

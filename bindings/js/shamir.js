@@ -43,11 +43,13 @@ export const EXPONENT_MAX = 15;
 /** @typedef {import("./types.js").DrillOptions} DrillOptions */
 /** @typedef {import("./types.js").EncryptedSecret} EncryptedSecret */
 /** @typedef {import("./types.js").GroupStatus} GroupStatus */
+/** @typedef {import("./types.js").Judgement} Judgement */
 /** @typedef {import("./types.js").Lines} Lines */
 /** @typedef {import("./types.js").Outcome} Outcome */
 /** @typedef {import("./types.js").RecoverOptions} RecoverOptions */
 /** @typedef {import("./types.js").ResplitOptions} ResplitOptions */
 /** @typedef {import("./types.js").Share} Share */
+/** @typedef {import("./types.js").ShareFields} ShareFields */
 /** @typedef {import("./types.js").Status} Status */
 /** @typedef {import("./types.js").Text} Text */
 
@@ -64,6 +66,8 @@ const FORM_FINGERPRINTS = 1;
 const FORM_EXPECTED = 2;
 
 const SHARE_BYTES = 10;
+// The fields of the share, and then whether it is there already.
+const JUDGEMENT_BYTES = 12;
 const PARAMETERS_BYTES = 4;
 const NUMBER_MAX = 2 ** 32 - 1;
 // `resplit` draws random bytes so often at most. One draw in 32,768 gives the identifier of the old backup.
@@ -92,6 +96,27 @@ function parametersOf(encrypted) {
   const { id, extendable, exponent } = known(encrypted, ["id", "extendable", "exponent", "value"], "the fields of an encrypted secret");
   const whole = wholeNumber(id, "the identifier", 2 ** 16 - 1);
   return new Struct(Uint8Array.of(whole & 255, whole >> 8, Number(flag(extendable, "extendable")), wholeNumber(exponent, "the exponent", 255)));
+}
+
+/**
+ * Returns the fields of the struct of a share.
+ * @param {Uint8Array} bytes
+ * @returns {ShareFields}
+ */
+function fieldsOf(bytes) {
+  const [low, high, extendable, exponent, groupIndex, groupThreshold, groupCount, memberIndex, memberThreshold] = bytes;
+  return { id: low + 256 * high, extendable: extendable > 0, exponent, groupIndex, groupThreshold, groupCount, memberIndex, memberThreshold };
+}
+
+/**
+ * Reads the text of a status.
+ * @param {import("./calls.js").Answer} answer
+ * @returns {Status}
+ */
+function statusOf({ output, first, second }) {
+  const [head, ...rows] = linesOf(output);
+  const text = [head, ...rows].map(decoded).join("\n");
+  return { complete: first, required: second, enough: first >= second, groups: rows.map(groupStatus), text };
 }
 
 /** The engine. `load` gives one. */
@@ -126,9 +151,7 @@ export class Engine {
     return withCopies((own) => {
       const fields = new Struct(new Uint8Array(SHARE_BYTES));
       const value = this.#output("shamir_parse", [own.text(mnemonic, "the mnemonic"), fields], SECRET_BYTES_MAX);
-      const [low, high, extendable, exponent, groupIndex, groupThreshold, groupCount, memberIndex, memberThreshold] = fields.bytes;
-      const id = low + 256 * high;
-      return { id, extendable: extendable > 0, exponent, groupIndex, groupThreshold, groupCount, memberIndex, memberThreshold, value };
+      return { ...fieldsOf(fields.bytes), value };
     });
   }
 
@@ -309,9 +332,34 @@ export class Engine {
    */
   status(lines) {
     return withCopies((own) => {
-      const { output, first, second } = this.#checked("shamir_status", [own.lines(lines), new Room(STATUS_BYTES_MAX)]);
-      const groups = linesOf(own.keep(output)).slice(1).map(groupStatus);
-      return { complete: first, required: second, enough: first >= second, groups };
+      const answer = this.#checked("shamir_status", [own.lines(lines), new Room(STATUS_BYTES_MAX)]);
+      own.keep(answer.output);
+      return statusOf(answer);
+    });
+  }
+
+  /**
+   * Judges a mnemonic beside those that came before it: whether it can be taken, whether it is there already, and what its backup has
+   * with it.
+   *
+   *     shamir.judge(mnemonics.slice(0, 1), mnemonics[1]).status.enough; // true
+   *
+   * `lines` is as for `recover`, but its mnemonics may be of several backups. Those with the same identifier are taken for those of one
+   * backup. `mnemonic` is as for `parse`. The status is that of the lines with its identifier, and of itself. If the mnemonic is
+   * refused, the refusal's `line` is null. `Papers` keeps the lines.
+   *
+   * Throws a `Refusal` with one of the codes 11 to 15, 22 to 28, or 71.
+   * @param {Lines} lines
+   * @param {Text} mnemonic
+   * @returns {Judgement}
+   */
+  judge(lines, mnemonic) {
+    return withCopies((own) => {
+      const judgement = new Struct(new Uint8Array(JUDGEMENT_BYTES));
+      const given = [own.lines(lines), own.text(mnemonic, "the mnemonic"), judgement, new Room(STATUS_BYTES_MAX)];
+      const answer = this.#checked("shamir_judge", given);
+      own.keep(answer.output);
+      return { share: fieldsOf(judgement.bytes), again: judgement.bytes[SHARE_BYTES] > 0, status: statusOf(answer) };
     });
   }
 

@@ -92,8 +92,8 @@ export interface Codes {
   LINE_TOO_LONG: 71;
 }
 
-/** The fields of a mnemonic, and its value. Groups and members are numbered from 0. */
-export interface Share {
+/** The fields of a mnemonic. Groups and members are numbered from 0. */
+export interface ShareFields {
   /** The identifier of the backup, 0 to 32767. */
   id: number;
   /** The extendable flag. */
@@ -110,6 +110,10 @@ export interface Share {
   memberIndex: number;
   /** 1 to 16. */
   memberThreshold: number;
+}
+
+/** The fields of a mnemonic, and its value. */
+export interface Share extends ShareFields {
   /** The value, 16 to 128 bytes. It is as secret as the mnemonic. */
   value: Uint8Array;
 }
@@ -194,6 +198,18 @@ export interface Status {
   enough: boolean;
   /** Each group that has members among the mnemonics, in ascending order. */
   groups: GroupStatus[];
+  /** What the command status prints, without the last line feed. */
+  text: string;
+}
+
+/** What a mnemonic is beside others. */
+export interface Judgement {
+  /** Its fields. */
+  share: ShareFields;
+  /** Whether its share is among the others already. */
+  again: boolean;
+  /** What its backup has with it. */
+  status: Status;
 }
 
 /**

@@ -48,6 +48,13 @@ export class InWorker {
     status(lines: Lines, signal?: AbortSignal | undefined): Promise<Status>;
     /**
      * @param {Lines} lines
+     * @param {Text} mnemonic
+     * @param {AbortSignal} [signal]
+     * @returns {Promise<Judgement>}
+     */
+    judge(lines: Lines, mnemonic: Text, signal?: AbortSignal | undefined): Promise<Judgement>;
+    /**
+     * @param {Lines} lines
      * @param {AbortSignal} [signal]
      * @returns {Promise<bigint>}
      */
@@ -98,6 +105,7 @@ export type CreateOptions = import("./types.js").CreateOptions;
 export type DecryptOptions = import("./types.js").DecryptOptions;
 export type DrillOptions = import("./types.js").DrillOptions;
 export type EncryptedSecret = import("./types.js").EncryptedSecret;
+export type Judgement = import("./types.js").Judgement;
 export type Lines = import("./types.js").Lines;
 export type Outcome = import("./types.js").Outcome;
 export type RecoverOptions = import("./types.js").RecoverOptions;

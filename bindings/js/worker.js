@@ -16,6 +16,7 @@ import { plain } from "./copies.js";
 /** @typedef {import("./types.js").DecryptOptions} DecryptOptions */
 /** @typedef {import("./types.js").DrillOptions} DrillOptions */
 /** @typedef {import("./types.js").EncryptedSecret} EncryptedSecret */
+/** @typedef {import("./types.js").Judgement} Judgement */
 /** @typedef {import("./types.js").Lines} Lines */
 /** @typedef {import("./types.js").Outcome} Outcome */
 /** @typedef {import("./types.js").RecoverOptions} RecoverOptions */
@@ -153,6 +154,16 @@ export class InWorker {
    */
   status(lines, signal) {
     return this.#call("status", [copyable(lines)], signal);
+  }
+
+  /**
+   * @param {Lines} lines
+   * @param {Text} mnemonic
+   * @param {AbortSignal} [signal]
+   * @returns {Promise<Judgement>}
+   */
+  judge(lines, mnemonic, signal) {
+    return this.#call("judge", [copyable(lines), mnemonic], signal);
   }
 
   /**

@@ -1,8 +1,8 @@
 /*
  * shamir.h: SLIP-0039 backups of a master secret, for C and C++. The manual page shamir(3) is made of these comments.
  *
- * The library creates backups, reads mnemonics, recovers secrets and runs drills. It also reports whether mnemonics are enough
- * for a recovery, counts quorums, gives and decrypts encrypted secrets, computes lost mnemonics and fingerprints of secrets, splits a
+ * The library creates backups, reads and judges mnemonics, recovers secrets and runs drills. It also reports whether mnemonics are
+ * enough for a recovery, counts quorums, gives and decrypts encrypted secrets, computes lost mnemonics and fingerprints of secrets, splits a
  * backup anew by another plan, finds words that can't be read, and lists words of the word list. docs/LIBRARY.md introduces it with
  * examples.
  *
@@ -123,6 +123,15 @@ extern "C" {
 #define SHAMIR_STRUCT(position)
 #endif
 
+/* A function whose body stands in this header. C89 has no keyword for it. */
+#if defined(__GNUC__)
+#define SHAMIR_INLINE static __inline__ __attribute__((warn_unused_result))
+#elif defined(__cplusplus) || (defined(__STDC_VERSION__) && __STDC_VERSION__ >= 199901L)
+#define SHAMIR_INLINE static inline
+#else
+#define SHAMIR_INLINE static
+#endif
+
 /*
  * The codes of an answer. A call that refuses gives the code of the first cause that applies. The command shamir uses the
  * same numbers, except 1 to 4, which only the library gives. Only the library as plain C gives 4, and it gives 4 before any other
@@ -181,7 +190,8 @@ typedef enum shamir_code {
  * line is the number of the refused line, counted from 1, for the codes 11 to 28 and 71 of calls that take lines. Otherwise
  * it is 0. Only shamir_drill sets the field "mismatches"; in answers of other calls this field is 0. first and second are the
  * details of a refusal. After success, first is a result of shamir_random_needed, shamir_create, shamir_drill, shamir_status,
- * shamir_quorums, shamir_resplit and shamir_repair, and second of shamir_drill and shamir_status. Otherwise they are 0.
+ * shamir_judge, shamir_quorums, shamir_resplit and shamir_repair, and second of shamir_drill, shamir_status and shamir_judge.
+ * Otherwise they are 0.
  */
 typedef struct shamir_answer {
     uint32_t code;       /* a shamir_code: SHAMIR_DONE, or the cause of the refusal */
@@ -203,6 +213,12 @@ typedef struct shamir_share {
     uint8_t member_index;     /* the member of the group, 0 to 15 */
     uint8_t member_threshold; /* 1 to 16 */
 } shamir_share;
+
+/* What a mnemonic is beside those that came before it. */
+typedef struct shamir_judgement {
+    shamir_share share; /* its fields, as shamir_parse gives them */
+    uint8_t again;      /* 1 if its share is among those that came before it, else 0 */
+} shamir_judgement;
 
 /* What decrypts an encrypted secret beside the passphrase. */
 typedef struct shamir_parameters {
@@ -285,6 +301,39 @@ SHAMIR_CALL
 shamir_answer shamir_create(
     const char *plan, size_t plan_bytes, const uint8_t *secret, size_t secret_bytes, const char *passphrase, size_t passphrase_bytes,
     uint32_t exponent, uint32_t extendable, const uint8_t *random, size_t random_bytes, char *mnemonics, size_t mnemonics_bytes);
+
+/*
+ * The arguments of shamir_create, each by its name. A field that an initializer leaves out is 0 or NULL.
+ *
+ * shamir_create_with calls shamir_create with them. It stands in the header alone, and refuses what that call refuses.
+ *
+ *     shamir_create_options options = {
+ *         .plan = "2of3", .plan_bytes = 4, .secret = secret, .secret_bytes = 16, .extendable = 1, .random = random,
+ *         .random_bytes = 14, .mnemonics = mnemonics, .mnemonics_bytes = sizeof mnemonics};
+ *     shamir_answer answer = shamir_create_with(&options);
+ */
+typedef struct shamir_create_options {
+    const char *plan;        /* the plan, whose length is plan_bytes */
+    size_t plan_bytes;
+    const uint8_t *secret;   /* the master secret, whose length is secret_bytes */
+    size_t secret_bytes;
+    const char *passphrase;  /* the passphrase, whose length is passphrase_bytes */
+    size_t passphrase_bytes;
+    uint32_t exponent;       /* the iteration exponent */
+    uint32_t extendable;     /* the extendable flag, 0 or 1 */
+    const uint8_t *random;   /* the random bytes, random_bytes of them */
+    size_t random_bytes;
+    char *mnemonics;         /* the output buffer, whose length is mnemonics_bytes */
+    size_t mnemonics_bytes;
+} shamir_create_options;
+
+/* Calls shamir_create with these arguments. */
+SHAMIR_INLINE SHAMIR_STRUCT(1) shamir_answer shamir_create_with(const shamir_create_options *options)
+{
+    return shamir_create(
+        options->plan, options->plan_bytes, options->secret, options->secret_bytes, options->passphrase, options->passphrase_bytes,
+        options->exponent, options->extendable, options->random, options->random_bytes, options->mnemonics, options->mnemonics_bytes);
+}
 
 /*
  * Recovers the master secret from mnemonics.
@@ -437,6 +486,39 @@ shamir_answer shamir_drill(
  */
 SHAMIR_CALL
 shamir_answer shamir_status(const char *lines, size_t lines_bytes, char *text, size_t text_bytes);
+
+/*
+ * Judges a mnemonic beside those that came before it: whether it can be taken, whether it is there already, and what its backup
+ * has with it.
+ *
+ * lines         the mnemonics that came before, as for shamir_recover; they may be of one backup or of several
+ * line          the mnemonic to judge, as for shamir_parse
+ * judgement     the output struct: the fields of the mnemonic, and whether its share is in lines already
+ * text          the output: what shamir_status gives for line and those of lines that are of its backup; it has at most
+ *               SHAMIR_STATUS_BYTES_MAX bytes
+ *
+ * Two mnemonics are taken to be of one backup if they have the same identifier. So a program can keep each paper that comes, even
+ * if the first one is of another backup than the rest. The call needs no passphrase, and decrypts nothing.
+ *
+ * After success, the field first of the answer is the number of complete groups of this backup, and second is its group
+ * threshold. There is a quorum if and only if first is at least second. If the field again of the judgement is 0, add the
+ * mnemonic to lines, with a line feed between them. A line has at most SHAMIR_LINE_BYTES_MAX bytes.
+ *
+ * If the mnemonic itself is refused, the field line of the answer is 0. Otherwise it is the number of the first refused line of
+ * lines. A line with another identifier is refused only if it isn't a mnemonic.
+ *
+ * The call refuses with the first of these that applies: 11 to 15 (line isn't a mnemonic), the code of the first refused line of
+ * lines (11 to 15, 22 to 28, 71), 22 to 28 (the share of line can't join those of lines with its identifier), 1.
+ *
+ *     shamir_judgement judgement;
+ *     char text[SHAMIR_STATUS_BYTES_MAX];
+ *     shamir_answer answer = shamir_judge(lines, lines_bytes, line, strlen(line), &judgement, text, sizeof text);
+ *     int enough = answer.code == SHAMIR_DONE && answer.first >= answer.second;
+ */
+SHAMIR_CALL SHAMIR_STRUCT(5)
+shamir_answer shamir_judge(
+    const char *lines, size_t lines_bytes, const char *line, size_t line_bytes, shamir_judgement *judgement, char *text,
+    size_t text_bytes);
 
 /*
  * Counts the quorums among mnemonics.

@@ -299,6 +299,26 @@ struct Status {
     bool enough() const noexcept { return complete >= required; }
 };
 
+/* The text of a status, as the command status prints it. */
+inline std::string to_text(const Status &status)
+{
+    std::string text = "groups " + std::to_string(status.complete) + " of " + std::to_string(status.required) + "\n";
+    for (const auto &[group, threshold, names] : status.groups) {
+        text += "group " + std::to_string(group) + " members " + std::to_string(names.size()) + " of " + std::to_string(threshold) + " "
+            + to_text(names) + "\n";
+    }
+    return text;
+}
+
+/* What a mnemonic is beside others: its fields, whether its share is among them already, and what its backup has with it. */
+struct Judgement {
+    shamir_share share;
+    bool again;
+    Status status;
+
+    Name name() const noexcept { return {share.group_index, share.member_index}; }
+};
+
 /* Set the extendable flag of a new backup, unless a wallet that has to read it doesn't know the flag. */
 struct CreateOptions {
     Text passphrase = {};
@@ -452,22 +472,45 @@ inline Answer<Secret> decrypt(const EncryptedSecret &secret, const DecryptOption
     });
 }
 
-inline Answer<Status> status(Text lines)
+namespace detail {
+
+/* Makes a call that writes a status. */
+template <class Call> Answer<Status> status(const Call &call)
 {
     char room[SHAMIR_STATUS_BYTES_MAX];
-    const shamir_answer answer = shamir_status(lines.data(), lines.size(), room, sizeof room);
+    const shamir_answer answer = call(room, sizeof room);
     if (answer.code != SHAMIR_DONE) {
         return Refusal(answer);
     }
     Status status{answer.first, answer.second, {}};
-    for (const Text line : detail::parts(Text(room, detail::size_of(answer.written)), '\n')) {
+    for (const Text line : parts(Text(room, size_of(answer.written)), '\n')) {
         /* After the first line, "groups C of R", come lines "group G members N of T NAMES". */
-        const auto words = detail::parts(line, ' ');
+        const auto words = parts(line, ' ');
         if (words.size() > 6) {
-            status.groups.push_back({detail::number(words[1]), detail::number(words[5]), detail::names(words[6])});
+            status.groups.push_back({number(words[1]), number(words[5]), names(words[6])});
         }
     }
     return status;
+}
+
+} // namespace detail
+
+inline Answer<Status> status(Text lines)
+{
+    return detail::status([&](char *room, std::size_t size) { return shamir_status(lines.data(), lines.size(), room, size); });
+}
+
+/* Judges a mnemonic beside lines of one backup or of several. If the mnemonic is refused, the refusal has no line. */
+inline Answer<Judgement> judge(Text lines, Text mnemonic)
+{
+    shamir_judgement found;
+    auto status = detail::status([&](char *room, std::size_t size) {
+        return shamir_judge(lines.data(), lines.size(), mnemonic.data(), mnemonic.size(), &found, room, size);
+    });
+    if (!status) {
+        return status.error();
+    }
+    return Judgement{found.share, found.again != 0, *std::move(status)};
 }
 
 /* Counts the quorums of mnemonics, or gives UINT64_MAX if there are more. */
@@ -518,6 +561,58 @@ inline Answer<Mnemonics> repair(Text line)
         return shamir_repair(line.data(), line.size(), room, size);
     });
 }
+
+/* Mnemonics as they come, one after the other, of one backup or of several. The library decides about each. */
+class Papers {
+public:
+    /* Judges a mnemonic beside all that are here, and keeps it unless it is here already, in lower-case words with single spaces. If it
+       is refused, nothing is kept. */
+    Answer<Judgement> add(Text mnemonic)
+    {
+        auto found = judge(all_, mnemonic);
+        if (!found || found->again) {
+            return found;
+        }
+        const auto respelled = repair(mnemonic);
+        if (!respelled) {
+            return respelled.error();
+        }
+        of_.reserve(of_.size() + 1);
+        all_.add(respelled->lines()[0]);
+        of_.push_back(found->share.id);
+        return found;
+    }
+
+    /* The identifiers of the backups, in the order in which they came. */
+    std::vector<std::uint16_t> ids() const
+    {
+        std::vector<std::uint16_t> found;
+        for (const std::uint16_t id : of_) {
+            if (std::find(found.begin(), found.end(), id) == found.end()) {
+                found.push_back(id);
+            }
+        }
+        return found;
+    }
+
+    /* The mnemonics of the backup with an identifier, in the order in which they came. */
+    Mnemonics lines(std::uint16_t id) const
+    {
+        Mnemonics found;
+        const auto all = all_.lines();
+        for (std::size_t i = 0; i < all.size(); i++) {
+            if (of_[i] == id) {
+                found.add(all[i]);
+            }
+        }
+        return found;
+    }
+
+private:
+    Mnemonics all_;
+    /* The identifier of each line. */
+    std::vector<std::uint16_t> of_;
+};
 
 inline Answer<std::string> fingerprint(Bytes secret)
 {

@@ -1115,6 +1115,7 @@ static void check_reading(void)
                                      "promise scatter center unfair training emphasis evening belong fake enforce\n";
     static const uint8_t chance[] = {0x12, 0x34};
     uint8_t value[SHAMIR_SECRET_BYTES_MAX];
+    shamir_judgement judgement;
     shamir_share share;
     shamir_answer answer = shamir_parse(FIRST, strlen(FIRST) - 1, &share, value, sizeof value);
 
@@ -1125,6 +1126,9 @@ static void check_reading(void)
     expect("shamir_parse without a room", answer.code == SHAMIR_E_TOO_SHORT && answer.first == 16 && share.member_index == 1);
     expect("shamir_status", wrote(shamir_status(four, strlen(four), text, sizeof text),
            "groups 2 of 2\ngroup 0 members 2 of 2 0.0+0.1\ngroup 1 members 1 of 1 1.0\n"));
+    answer = shamir_judge(four, strlen(four), THIRD, strlen(THIRD) - 1, &judgement, text, sizeof text);
+    expect("shamir_judge", answer.first == 2 && answer.second == 2 && judgement.share.member_index == 2 && judgement.again == 0 &&
+           wrote(answer, "groups 2 of 2\ngroup 0 members 3 of 2 0.0+0.1+0.2\ngroup 1 members 1 of 1 1.0\n"));
     answer = shamir_quorums(four, strlen(four));
     expect("shamir_quorums", answer.code == SHAMIR_DONE && answer.first == 1 && answer.written == 0);
     expect("shamir_drill", wrote(shamir_drill(four, strlen(four), KEY, strlen(KEY), SHAMIR_EXPONENT_MAX, "", 0, 9, SHAMIR_FORM_DIGITS,

@@ -1,15 +1,11 @@
 /*
  * Four clients of the library. The first line of standard input is the passphrase, except for `repair`. Papers are the
- * lines after it, or those of a file. FINGERPRINT is what `make` told.
+ * lines after it, or those of a file. FINGERPRINT is what `make` told. Ctrl-C stops a drill.
  *
  *     cc -Iinclude examples/c/wallet.c libshamir.a -o wallet
- *     ./wallet make PLAN
- *     ./wallet recover FINGERPRINT
- *     ./wallet drill FINGERPRINT FILE      # Ctrl-C stops it
- *     ./wallet repair
+ *     ./wallet make PLAN, or recover FINGERPRINT, or drill FINGERPRINT FILE, or repair
  *
- * To stay short, it shows what is typed, and streams keep copies of what they read. A wallet hides the passphrase, and
- * recover.c shows how a stream keeps no copy.
+ * To stay short, it shows what is typed. A wallet hides it, and reads it as recover.c does.
  */
 #include <signal.h>
 #include <stdio.h>
@@ -19,103 +15,66 @@
 #include "shamir.h"
 
 static uint8_t secret[SHAMIR_SECRET_BYTES_MAX], drawn[SHAMIR_RANDOM_BYTES_MAX];
-static char papers[2 * SHAMIR_MNEMONICS_BYTES_MAX], text[SHAMIR_MNEMONICS_BYTES_MAX],
-    before[SHAMIR_STATUS_BYTES_MAX + 1];
-static char after[SHAMIR_NAMES_BYTES_MAX + 1] = "none", first[SHAMIR_LINE_BYTES_MAX + 2];
+static char lines[2 * SHAMIR_MNEMONICS_BYTES_MAX], text[SHAMIR_MNEMONICS_BYTES_MAX], key[SHAMIR_LINE_BYTES_MAX + 1];
 static volatile sig_atomic_t stopped;
 
-static void stop(int signal_number) {
-    (void)signal_number;
-    stopped = 1;
-}
+static void stop(int signal_number) { stopped = signal_number; }
 
-static int fail(const char *why) {
-    fprintf(stderr, "%s\n", why);
+/* Prints what a call wrote to text, or why it was refused. Returns the status of the program. */
+static int tell(const char *before, shamir_answer answer, FILE *refusals) {
+    if (answer.code == SHAMIR_DONE)
+        return printf("%s%.*s", before, (int)answer.written, text) < 0;
+    fprintf(refusals, "%u ", (unsigned)answer.code);
+    fprintf(refusals, "%.*s\n", (int)shamir_text(&answer, text, sizeof text).written, text);
     return 1;
 }
 
-/* Reads the first line, without its line feed. Returns whether it is there, and isn't too long. */
-static int read_line(void) {
-    return fgets(first, sizeof first, stdin) &&
-           (first[strcspn(first, "\n")] = 0, strlen(first)) <= SHAMIR_LINE_BYTES_MAX;
-}
-
-/* Says what is wrong, and what to do. Returns the status of the program. */
-static int told(FILE *out, const shamir_answer *answer) {
-    size_t bytes = (size_t)shamir_text(answer, text, sizeof text).written;
-
-    fprintf(out, "%u %.*s%s\n", (unsigned)answer->code, (int)bytes, text,
-            answer->code == SHAMIR_E_BAD_CHECKSUM ? ": put ? for the words that can't be read, and repair the line"
-            : answer->code == SHAMIR_E_WRONG_WORD ? ": read this word again"
-            : answer->code == SHAMIR_E_DIGEST_MISMATCH
-                ? ": a paper isn't of this backup, or was changed: drill all papers"
-            : answer->code == SHAMIR_E_OTHER_SECRET ? ": the passphrase is another one, or the papers are"
-                                                    : "");
-    return 1;
-}
-
-static int fingerprint(const char *before_it, size_t secret_bytes) {
-    char digits[SHAMIR_FINGERPRINT_BYTES_MAX];
-    shamir_answer answer = shamir_fingerprint(secret, secret_bytes, digits, sizeof digits);
-
-    return answer.code != SHAMIR_DONE ? told(stderr, &answer)
-                                      : printf("%sfingerprint %.*s\n", before_it, (int)answer.written, digits) < 0;
-}
+static int fail(const char *why) { return fprintf(stderr, "%s\n", why) != 0; }
 
 static int make(const char *plan) {
-    shamir_answer answer = shamir_random_needed(plan, strlen(plan), 16);
-    size_t needed = (size_t)answer.first;
+    size_t plan_bytes = strlen(plan), needed = (size_t)shamir_random_needed(plan, plan_bytes, 16).first;
+    shamir_create_options options = {.plan = plan, .plan_bytes = plan_bytes, .secret = secret, .secret_bytes = 16};
 
-    if (answer.code != SHAMIR_DONE)
-        return told(stderr, &answer);
     if (getrandom(secret, 16, 0) != 16 || getrandom(drawn, needed, 0) != (ssize_t)needed)
         return fail("no random bytes");
-    answer =
-        shamir_create(plan, strlen(plan), secret, 16, first, strlen(first), 1, 1, drawn, needed, text, sizeof text);
-    if (answer.code != SHAMIR_DONE)
-        return told(stderr, &answer);
-    fwrite(text, 1, (size_t)answer.written, stdout);
-    return fingerprint("# ", 16);
+    options.passphrase = key, options.passphrase_bytes = strlen(key);
+    options.exponent = options.extendable = 1;
+    options.random = drawn, options.random_bytes = needed;
+    options.mnemonics = text, options.mnemonics_bytes = sizeof text;
+    return tell("", shamir_create_with(&options), stderr) ||
+           tell("# fingerprint ", shamir_fingerprint(secret, 16, text, sizeof text), stderr) || puts("") < 0;
 }
 
-/* Prints a status: a line for all groups, and one for each group. Returns whether it is another than before. */
-static int show(char *status) {
-    char *line, names[SHAMIR_NAMES_BYTES_MAX + 1];
-    unsigned group, threshold;
-    int is_other = strcmp(status, before) != 0;
+/* Makes comments of the papers of other backups. */
+static void leave(uint16_t id, size_t used) {
+    shamir_share share = {.id = id};
 
-    puts(is_other ? strtok(strcpy(text, status), "\n") : "again");
-    for (line = strchr(status, '\n') + 1; *line; line = strchr(line, '\n') + 1)
-        if (sscanf(line, "group %u members %*u of %u %1215s", &group, &threshold, names) == 3)
-            printf("group %u has %s, %u are needed\n", group, names, threshold);
-    strcpy(before, status);
-    return is_other;
+    for (size_t at = 0, bytes; at < used; at += bytes + 1) {
+        bytes = strcspn(lines + at, "\n");
+        if (shamir_parse(lines + at, bytes, &share, NULL, 0).code == SHAMIR_E_TOO_SHORT && share.id != id)
+            lines[at] = '#';
+    }
 }
 
 static int recover(const char *noted) {
-    static char status[SHAMIR_STATUS_BYTES_MAX + 1];
     size_t used = 0, bytes;
-    shamir_answer answer, closer;
+    shamir_judgement found;
+    shamir_answer answer;
 
-    while (fgets(papers + used, SHAMIR_LINE_BYTES_MAX + 2, stdin)) {
-        bytes = strcspn(papers + used, "\n");
-        answer = shamir_status(papers, used + bytes, status, SHAMIR_STATUS_BYTES_MAX);
-        if (answer.code != SHAMIR_DONE) {
-            /* If the checksum is wrong, shamir_repair says whether one word can be. */
-            closer = shamir_repair(papers + used, bytes, text, sizeof text);
-            told(stdout, answer.code == SHAMIR_E_BAD_CHECKSUM ? &closer : &answer);
+    while (used < sizeof lines - sizeof key && fgets(lines + used, sizeof key, stdin)) {
+        bytes = strcspn(lines + used, "\n");
+        answer = shamir_judge(lines, used, lines + used, bytes, &found, text, sizeof text);
+        if (tell(answer.code == SHAMIR_DONE && found.again ? "again\n" : "", answer, stdout))
             continue;
-        }
-        status[answer.written] = 0;
-        if (show(status)) {
-            used += bytes;
-            papers[used++] = '\n';
-        }
+        lines[used + bytes] = '\n';
+        used += found.again ? 0 : bytes + 1;
         if (answer.first >= answer.second) {
-            /* With an empty fingerprint, the library would compare nothing. It refuses "-". */
-            answer = shamir_recover(papers, used, first, strlen(first), SHAMIR_EXPONENT_MAX, *noted ? noted : "-",
-                                    *noted ? strlen(noted) : 1, secret, sizeof secret);
-            return answer.code == SHAMIR_DONE ? fingerprint("", (size_t)answer.written) : told(stderr, &answer);
+            leave(found.share.id, used);
+            answer = shamir_recover(lines, used, key, strlen(key), SHAMIR_EXPONENT_MAX, noted, strlen(noted), secret,
+                                    sizeof secret);
+            if (answer.code == SHAMIR_DONE)
+                answer = shamir_fingerprint(secret, (size_t)answer.written, text, sizeof text);
+            return tell("fingerprint ", answer, stderr) || puts("") < 0;
         }
     }
     return fail("more papers are needed");
@@ -123,60 +82,45 @@ static int recover(const char *noted) {
 
 static int drill(const char *noted, const char *name) {
     FILE *file = fopen(name, "r");
-    size_t bytes = file ? fread(papers, 1, sizeof papers, file) : 0;
-    shamir_answer answer = shamir_quorums(papers, bytes);
-    unsigned long number = 0, quorums = (unsigned long)answer.first;
-    char *line, *end;
+    size_t bytes = file ? fread(lines, 1, sizeof lines, file) : 0;
+    unsigned long number = 0, quorums = (unsigned long)shamir_quorums(lines, bytes).first;
+    char after[SHAMIR_NAMES_BYTES_MAX + 1] = "";
+    shamir_answer answer;
 
     if (!file || !feof(file))
         return fail("the file can't be read, or is too long");
-    if (answer.code != SHAMIR_DONE)
-        return told(stderr, &answer);
     signal(SIGINT, stop);
-    for (;;) {
-        answer =
-            shamir_drill(papers, bytes, first, strlen(first), SHAMIR_EXPONENT_MAX, after, number ? strlen(after) : 0,
-                         1000, SHAMIR_FORM_EXPECTED, noted, strlen(noted), text, 65536);
+    do {
+        answer = shamir_drill(lines, bytes, key, strlen(key), SHAMIR_EXPONENT_MAX, after, strlen(after), 1000,
+                              SHAMIR_FORM_EXPECTED, noted, strlen(noted), text, 65536);
         if (answer.code != SHAMIR_DONE)
-            return told(stderr, &answer);
-        for (line = text; line < text + answer.second && !stopped; line = end + 1) {
-            end = strchr(line, '\n');
+            return tell("", answer, stderr);
+        for (char *line = text; line < text + answer.second && !stopped; line = strchr(line, '\n') + 1) {
             sscanf(line, "%1215s", after);
             printf("%lu of %lu: %s %s\n", ++number, quorums, after,
-                   strncmp(end - 11, "as expected", 11) == 0 ? "as expected" : "NOT as expected");
+                   memcmp(line + strlen(after), " as", 3) == 0 ? "as expected" : "NOT as expected");
             fflush(stdout);
         }
-        if (stopped)
-            printf("stopped after %s\n", after);
-        if (stopped || memcmp(text + answer.second, "end\n", 4) == 0)
-            return 0;
-    }
-}
-
-static int repair(void) {
-    shamir_answer answer = shamir_repair(first, strlen(first), text, sizeof text);
-
-    if (answer.code != SHAMIR_DONE)
-        return told(stderr, &answer);
-    return fwrite(text, 1, (size_t)answer.written, stdout) != answer.written;
+    } while (!stopped && memcmp(text + answer.second, "end\n", 4) != 0);
+    return stopped && printf("stopped after %s\n", after) < 0;
 }
 
 int main(int count, char **words) {
-    const char *command = count > 1 ? words[1] : "";
-    int status =
-        strcmp(command, "make") == 0 && count == 3 && read_line()      ? make(words[2])
-        : strcmp(command, "recover") == 0 && count == 3 && read_line() ? recover(words[2])
-        : strcmp(command, "drill") == 0 && count == 4 && read_line()   ? drill(words[2], words[3])
-        : strcmp(command, "repair") == 0 && count == 2 && read_line()
-            ? repair()
-            : fail("give make PLAN, recover FINGERPRINT, drill FINGERPRINT FILE or repair, and a line of input");
+    const char *task = count > 1 && fgets(key, sizeof key, stdin) && strlen(key) + 1 < sizeof key ? words[1] : "";
+    /* With an empty fingerprint, the library would compare nothing. It refuses "-". */
+    const char *given = count > 2 && *words[2] ? words[2] : "-";
+    int status;
 
+    key[strcspn(key, "\n")] = 0;
+    status = strcmp(task, "make") == 0 && count == 3      ? make(given)
+             : strcmp(task, "recover") == 0 && count == 3 ? recover(given)
+             : strcmp(task, "drill") == 0 && count == 4   ? drill(given, words[3])
+             : strcmp(task, "repair") == 0 && count == 2
+                 ? tell("", shamir_repair(key, strlen(key), text, sizeof text), stderr)
+                 : fail("give make PLAN, recover FINGERPRINT, drill FINGERPRINT FILE or repair, and a line of input");
     if (fflush(stdout) || ferror(stdout))
         status = fail("the output can't be written");
-    shamir_wipe(secret, sizeof secret);
-    shamir_wipe(drawn, sizeof drawn);
-    shamir_wipe(papers, sizeof papers);
-    shamir_wipe(first, sizeof first);
-    shamir_wipe(text, sizeof text);
+    shamir_wipe(secret, sizeof secret), shamir_wipe(drawn, sizeof drawn), shamir_wipe(key, sizeof key);
+    shamir_wipe(lines, sizeof lines), shamir_wipe(text, sizeof text);
     return status;
 }

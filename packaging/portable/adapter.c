@@ -7,6 +7,7 @@
 #define MEMORY_BYTES_MAX 0xFFFF0000u
 #define NO_MEMORY_TEXT "no memory left for the call"
 #define SHARE_BYTES 10u
+#define JUDGEMENT_BYTES 12u
 #define PARAMETERS_BYTES 4u
 /*
  * A frame of the generated part has at most this many bytes, with those of functions that it calls and that don't move the pointer.
@@ -310,6 +311,25 @@ shamir_answer shamir_status(const char *lines, size_t lines_bytes, char *text, s
     if (!begin(&c))
         return no_memory();
     module_status(&c.m, ANSWER, from, lines_bytes, c.room, room_bytes);
+    RETURN_ANSWER(&c, text);
+}
+
+shamir_answer shamir_judge(
+    const char *lines, size_t lines_bytes, const char *line, size_t line_bytes, shamir_judgement *judgement, char *text,
+    size_t text_bytes)
+{
+    call c = new_call();
+    u32 from = given(&c, lines, lines_bytes), last = given(&c, line, line_bytes), fields = place(&c, JUDGEMENT_BYTES);
+    size_t room_bytes = at_most(text_bytes, SHAMIR_STATUS_BYTES_MAX);
+
+    c.room = place(&c, room_bytes);
+    if (!begin(&c))
+        return no_memory();
+    module_judge(&c.m, ANSWER, from, lines_bytes, last, line_bytes, fields, c.room, room_bytes);
+    if (has_struct(&c.m)) {
+        copy_share(&c.m, fields, &judgement->share);
+        judgement->again = c.m.data[fields + SHARE_BYTES];
+    }
     RETURN_ANSWER(&c, text);
 }
 

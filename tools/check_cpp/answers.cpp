@@ -65,15 +65,17 @@ Output digits(const shamir::Answer<shamir::Secret> &answer)
     return told(answer, [](const auto &secret) { return hex(secret) + "\n"; });
 }
 
+std::string fields(const shamir_share &share)
+{
+    return "identifier " + std::to_string(share.id) + " extendable " + std::to_string(share.extendable) + " exponent "
+        + std::to_string(share.exponent) + " group " + std::to_string(share.group_index) + " group-threshold "
+        + std::to_string(share.group_threshold) + " group-count " + std::to_string(share.group_count) + " member "
+        + std::to_string(share.member_index) + " member-threshold " + std::to_string(share.member_threshold);
+}
+
 Output show(const Values &given)
 {
-    return told(shamir::parse(*given[0]), [](const shamir::Share &share) {
-        const auto [group, member] = share.name();
-        return "identifier " + std::to_string(share.id) + " extendable " + std::to_string(share.extendable) + " exponent "
-            + std::to_string(share.exponent) + " group " + std::to_string(group) + " group-threshold "
-            + std::to_string(share.group_threshold) + " group-count " + std::to_string(share.group_count) + " member "
-            + std::to_string(member) + " member-threshold " + std::to_string(share.member_threshold) + " value " + hex(share.value) + "\n";
-    });
+    return told(shamir::parse(*given[0]), [](const shamir::Share &share) { return fields(share) + " value " + hex(share.value) + "\n"; });
 }
 
 /* Creates a backup twice: the random bytes are given, and drawn if there are as many as are needed. */
@@ -158,15 +160,12 @@ Output drill(const Values &given)
     return told(drilled, [&](const auto &it) { return listed + (it.ended ? "end" : "more after " + last) + "\n"; });
 }
 
-Output status(const Values &given)
+Output status(const Values &given) { return told(shamir::status(*given[0]), [](const auto &it) { return shamir::to_text(it); }); }
+
+Output judge(const Values &given)
 {
-    return told(shamir::status(*given[0]), [](const shamir::Status &status) {
-        std::string text = "groups " + std::to_string(status.complete) + " of " + std::to_string(status.required) + "\n";
-        for (const auto &[group, threshold, names] : status.groups) {
-            text += "group " + std::to_string(group) + " members " + std::to_string(names.size()) + " of " + std::to_string(threshold) + " "
-                + shamir::to_text(names) + "\n";
-        }
-        return text;
+    return told(shamir::judge(*given[1], *given[0]), [](const shamir::Judgement &found) {
+        return (found.again ? "again " : "new ") + fields(found.share) + "\n" + shamir::to_text(found.status);
     });
 }
 
@@ -189,7 +188,7 @@ Output words(const Values &given)
 
 const std::map<std::string, Output (*)(const Values &)> commands = {
     {"show", show}, {"create", create}, {"recover", recover}, {"encrypted", encrypted}, {"decrypt", decrypt}, {"drill", drill},
-    {"status", status}, {"reissue", reissue}, {"resplit", resplit}, {"repair", repair}, {"words", words},
+    {"status", status}, {"judge", judge}, {"reissue", reissue}, {"resplit", resplit}, {"repair", repair}, {"words", words},
 };
 
 } // namespace

@@ -27,6 +27,11 @@ constexpr shamir::Text lines[] = {
     "academic aluminum ceramic leader cylinder decorate mobile devote echo finger program firm starting dwarf grumpy harvest enforce raisin "
     "sprinkle phantom",
 };
+/* The first vector, and another value of the first of these lines. */
+constexpr shamir::Text alone = "duckling enlarge academic academic agency result length solution fridge kidney coal piece deal husband erode duke "
+                               "ajar critical decision keyboard";
+constexpr shamir::Text conflicting = "academic aluminum acrobat leaf civil drink heat negative damage union purchase photo inmate training amazing "
+                                     "yield bucket lend glance junk";
 constexpr shamir::Text extendable = "enemy favorite academic acid cowboy phrase havoc level response walnut budget painting inside trash adjust "
                                     "froth kitchen learn tidy punish\nenemy favorite academic always academic sniff script carpet romp kind "
                                     "promise scatter center unfair training emphasis evening belong fake enforce\n";
@@ -160,6 +165,27 @@ void check_reading()
     expect("names", shamir::to_text({{0, 2}, {0, 10}}) == "0.2+0.10" && shamir::Name{0, 2} < shamir::Name{0, 10});
 }
 
+void check_papers()
+{
+    const auto beside = shamir::judge(papers({0, 1}), lines[3]);
+    expect("judge", beside && beside->name() == shamir::Name{1, 0} && beside->share.id == 1 && !beside->again && beside->status.enough());
+    shamir::Papers held;
+    for (const shamir::Text paper : {alone, lines[3], lines[0]}) {
+        const auto found = held.add(paper);
+        expect("a paper", found && !found->again);
+    }
+    const std::string spaced = "  " + std::string(lines[3]) + std::string(2000, ' ');
+    const auto again = held.add(spaced);
+    expect("a paper that is there", again && again->again && again->status.complete == 1);
+    const auto other = held.add(conflicting);
+    expect("a paper that can't be taken", !other && other.error().code == SHAMIR_E_CONFLICTING_SHARE && other.error().line == 0);
+    expect("a paper with another word", held.add("academic x").error().word() == 2);
+    expect("identifiers", held.ids() == std::vector<std::uint16_t>{7945, 1});
+    expect("lines", shamir::Text(held.lines(1)) == shamir::Text(papers({3, 0})) && shamir::Text(held.lines(2)).empty());
+    shamir::Papers spelled;
+    expect("a long line", spelled.add(spaced) && spelled.add(lines[4]) && shamir::Text(spelled.lines(1)) == shamir::Text(papers({3, 4})));
+}
+
 /* If there is no memory for a call, its answer says so. Only the library as plain C takes any. */
 void check_no_memory()
 {
@@ -245,6 +271,7 @@ void check_memory()
     check_creation();
     check_recovery();
     check_drill();
+    check_papers();
     {
         shamir::Mnemonics held = papers({0, 1, 2, 3, 4});
         auto other = held;
@@ -287,6 +314,7 @@ int main()
     check_creation();
     check_recovery();
     check_reading();
+    check_papers();
     check_no_memory();
     check_refusals();
     check_drill();

@@ -221,7 +221,7 @@ def check_without():
         owner.expect(say("refused.31"))
         end_by_keys(owner)
     with started("new", "3/5") as owner:
-        for plan in ("2-of-3", "2/3OF5,1of1"):
+        for plan in ("2 out of 3", "2/3:5,1of1"):
             owner.wait(say("new.plan.choose"))
             owner.expect("2of3, or 2/3of5,1of1 with groups.")
             owner.forget()

@@ -7,6 +7,7 @@ import signal
 import subprocess
 import sys
 import termios
+import time
 
 from hands import BINDING, END, PATIENCE, Failed, Interrupted, Session, environment, habits, say
 from tasks import FINGERPRINT, PASSPHRASE, THREE_GROUPS, Owner, check_change, check_check, check_new, check_recover, check_repair, check_replace, check_what, paper_prompt
@@ -92,14 +93,14 @@ def check_signals():
 
 
 def stop(owner):
-    """Presses Enter while the library works. The work goes on if that isn't meant."""
+    """Presses the key that asks whether to stop while the library works. The work goes on if that isn't meant."""
     for answer in ("n", "y"):
-        owner.type("\n")
+        owner.type("s")
         owner.answer(f"{say('work.sure')} (y/n)", answer)
 
 
 def check_work():
-    """Ctrl-C while the library works for long, and Enter, which stops a drill."""
+    """Ctrl-C while the library works for long, and the key that stops that."""
     with Owner("new", "2of3") as owner:
         owner.prepare()
         owner.settle()
@@ -125,16 +126,27 @@ def check_work():
         owner.end(130)
 
 
+def wait_told(owner, count):
+    """Waits until the program has said so many times that only one key does something."""
+    deadline = time.monotonic() + PATIENCE
+    while owner.emulator.all_seen().count(say("work.key")) < count:
+        if time.monotonic() > deadline:
+            raise Failed(f"the program doesn't say that only one key does something; it shows: {owner.screen()}")
+        owner.pull(0.2)
+
+
 def check_stopped_drill():
-    """Enter stops a drill, which then says of no quorum that it is right. Each of these papers is a quorum with a secret of its own."""
+    """A drill that is stopped says of no quorum that it is right. Each of these papers is a quorum with a secret of its own. Enter stops
+    nothing."""
     with Owner("check") as owner:
         owner.prepare()
         owner.collect([plain.mnemonic({**SLOW, "group": group, "value": bytes([group]) * 16}) for group in range(4)])
         owner.passphrase("", "01234567")
         while "so far" not in owner.screen():
             owner.pull(1)
-        owner.type("x")
-        owner.expect(say("work.key"))
+        for count, key in enumerate(["x", "\n"], 1):
+            owner.type(key)
+            wait_told(owner, count)
         stop(owner)
         owner.wait(say("next.again"))
         owner.expect(say("check.done.stopped"))

@@ -2,7 +2,7 @@
 from hands import END, Failed, counted, say
 from refusals import end_by_keys, rows_of, started, word_prompt
 from slips import papers_of
-from tasks import SIGN, SOUND_PAPER, name_of, paper_prompt
+from tasks import SIGN, SOUND_PAPER, Owner, name_of, paper_prompt
 
 from shamir.papers.entry import said_count
 
@@ -48,7 +48,7 @@ def check_misspelt():
         owner.answer(say("paste.mend"), "")
         owner.expect(say("paste.taken", names=named([*papers[1:7], *papers[8:]])))
         for line, why in [(wrong, "Word 5, acdemic, isn't in the word list (academic"), (short, said_count(19, 20)), (SOUND_PAPER, say("refused.21"))]:
-            owner.expect(f"Not taken: the pasted paper that begins with '{first(line)}'. {why}")
+            owner.expect(f"Not taken: the paper that begins with '{first(line)}'. {why}")
         owner.answer(word_prompt(5), papers[0].split()[4])
         owner.answer(say("entry.on", typed=said_count(19, 20), number=20, sign=SIGN), papers[7].split()[-1])
         owner.wait(paper_prompt(49))
@@ -79,7 +79,7 @@ def check_rows():
         owner.type("\n".join(["Our wallet", *papers[:2], "keep them apart", papers[2]]) + "\n")
         owner.wait(paper_prompt(4))
         owner.expect(say("paste.taken", names=named(papers[:3])))
-        owner.expect("Not taken: the pasted paper that begins with 'our wallet'.")
+        owner.expect("Not taken: the paper that begins with 'our wallet'.")
         end_by_keys(owner)
 
 
@@ -171,7 +171,87 @@ def check_answers():
             end_by_keys(owner)
 
 
-CHECKS = [check_answers, check_many, check_misspelt, check_rows, check_elsewhere, check_dropped, check_back, check_cut]
+def on(count, wanted):
+    """Returns the question for the words that follow so many."""
+    return say("entry.on", typed=said_count(count, wanted), number=count + 1, sign=SIGN)
+
+
+def check_amid():
+    """The other papers are pasted where a word of the first one is asked for, which is misspelt, or where its last words are: each is judged
+    on one screen, and the owner then mends the first one."""
+    papers = papers_of(MANY)
+    words = papers[0].split()
+    half, wrong, anew = " ".join(words[:15]), misspelt(papers[0], 5, "acdemic"), misspelt(papers[0], 6, "acdemic")
+    unknown = "Word {}, acdemic, isn't in the word list (academic"
+    for typed, asked, pasted, why, mended, answer in [
+        (wrong, word_prompt(5), papers[1:], unknown.format(5), word_prompt(5), words[4]),
+        (wrong, word_prompt(5), [anew, *papers[1:]], unknown.format(6), word_prompt(6), words[5]),
+        (half, on(15, None), papers[1:], said_count(15, None), on(15, 20), " ".join(words[15:])),
+    ]:
+        with started("check") as owner:
+            owner.answer(paper_prompt(1), typed)
+            owner.wait(asked)
+            owner.forget()
+            owner.type("".join(f"{line}\n" for line in pasted))
+            owner.answer(say("paste.mend"), "")
+            owner.expect(say("paste.taken", names=named(papers[1:])))
+            owner.expect(f"Not taken: the paper that begins with '{first(typed)}'. {why}")
+            owner.answer(mended, answer)
+            owner.wait(paper_prompt(49))
+            owner.expect(say("collect.taken", name="0.0"))
+            end_by_keys(owner)
+
+
+def check_amid_rest():
+    """The rest of a paper is pasted with the other papers: all are taken."""
+    papers = papers_of("3of5")
+    words = papers[0].split()
+    with started("check") as owner:
+        owner.answer(paper_prompt(1), " ".join(words[:15]))
+        owner.wait(on(15, None))
+        owner.type("\n".join([" ".join(words[15:]), *papers[1:]]) + "\n")
+        owner.wait(paper_prompt(6))
+        owner.expect(say("paste.taken", names=named(papers)))
+        end_by_keys(owner)
+
+
+def check_early():
+    """Papers that are pasted where only Enter is asked for, or a line that doesn't show: none is taken, and the program says so."""
+    papers = papers_of("2of3")
+    lines = "".join(f"{line}\n" for line in papers)
+    with Owner("check") as owner:
+        owner.wait(say("safety.go"))
+        owner.type(lines)
+        owner.wait(paper_prompt(1))
+        owner.expect(say("screen.dropped"))
+        owner.collect(papers[:2])
+        owner.wait(say("passphrase.ask"))
+        owner.forget()
+        owner.type(lines)
+        owner.expect(say("screen.lines"))
+        owner.answer(say("passphrase.ask"), "")
+        owner.wait(say("noted.ask"))
+        owner.forget()
+        owner.type(lines)
+        owner.expect(say("noted.wrong"))
+        owner.wait(say("noted.ask"))
+        owner.expect(say("screen.dropped"))
+        if owner.emulator.all_seen().count(say("noted.wrong")) != 1:
+            raise Failed("lines of a paste are taken as fingerprints")
+        end_by_keys(owner)
+
+
+def check_tab():
+    """A tab that is pasted in a passphrase is a character of it, so the passphrase is refused, and isn't taken without the tab."""
+    with started("check") as owner:
+        owner.collect(papers_of("2of3")[:2])
+        owner.answer(say("passphrase.ask"), "ab\tcd")
+        owner.wait(say("passphrase.ask"))
+        owner.expect(say("refused.41", first=3))
+        end_by_keys(owner)
+
+
+CHECKS = [check_amid, check_amid_rest, check_early, check_tab, check_answers, check_many, check_misspelt, check_rows, check_elsewhere, check_dropped, check_back, check_cut]
 
 
 def check(see):

@@ -220,7 +220,7 @@ def check_plans():
         if "2/1of2" in owner.emulator.all_seen():
             raise Failed("a plan is named that the program refuses")
         for typed, texts in [
-            ("2/3of5, 1of1", [say("plan.lost.one", names="1.0"), say("plan.found.group.one", groups="1")]),
+            ("2 / 3-of-5, 1OF1", [say("plan.lost.one", names="1.0"), say("plan.found.group.one", groups="1")]),
             ("2of2", [say("plan.lost.any")]),
             ("1/1of1,2of3", [say("plan.found.one", names="0.0")]),
         ]:
@@ -256,7 +256,20 @@ def check_spaces():
         end_by_keys(owner)
 
 
-CHECKS = [check_damaged, check_number, check_twice, check_written_wrongly, check_sign, check_left_out, check_plans, check_spaces]
+def check_fingerprint():
+    """After the digits of a secret are cleared, its fingerprint still shows, as it may not be noted yet."""
+    with started("recover") as owner:
+        owner.collect(THREE_GROUPS[3:])
+        owner.passphrase(PASSPHRASE, "")
+        owner.answer(f"{say('recover.show')} (y/n)", "y")
+        owner.answer(say("recover.clear"), "")
+        owner.wait(say("next.unnoted"))
+        if FINGERPRINT not in owner.screen():
+            raise Failed(f"the fingerprint was cleared together with the digits: {owner.screen()}")
+        end_by_keys(owner)
+
+
+CHECKS = [check_fingerprint, check_damaged, check_number, check_twice, check_written_wrongly, check_sign, check_left_out, check_plans, check_spaces]
 
 
 def check(see):

@@ -5,9 +5,9 @@
  *
  * Each line of the input is a call: its name, its arguments in their order, and the room for its output, with single spaces between.
  * Bytes are hexadecimal digits after an x, and numbers are decimal. A dash stands for NULL. The program writes a line for each call:
- * the fields of its answer, those of the share that shamir_parse gives, the first three of which shamir_encrypted gives, and the output
- * as hexadecimal digits. It marks the bytes in and round each output. If a call changes one that it mustn't, or one of its arguments,
- * the line has the word `changed` too.
+ * the fields of its answer, those of the struct that it fills, and the output as hexadecimal digits. That struct is the judgement of
+ * shamir_judge, whose first eight fields shamir_parse gives, and the first three shamir_encrypted. The program marks the bytes in and
+ * round each output. If a call changes one that it mustn't, or one of its arguments, the line has the word `changed` too.
  *
  *     threads COUNT   makes all calls once in each of so many threads, and then once more. It writes the answers of the last time, and
  *                     before them `differs` if a thread got others (with -DTHREADED)
@@ -56,10 +56,10 @@ typedef struct {
     int has_no_output;
 } made_call;
 
-/* What a call gives: its answer, the share, its output between marked bytes, and whether it changed what it mustn't. */
+/* What a call gives: its answer, the struct that it fills, its output between marked bytes, and whether it changed what it mustn't. */
 typedef struct {
     shamir_answer answer;
-    shamir_share share;
+    shamir_judgement judgement;
     uint8_t *output;
     size_t room;
     int is_changed;
@@ -78,12 +78,13 @@ typedef struct {
         r->answer = shamir_##name(__VA_ARGS__); \
     }
 
-CALL(parse, TEXT(0), &r->share, r->output, r->room)
+CALL(parse, TEXT(0), &r->judgement.share, r->output, r->room)
 CALL(random_needed, TEXT(0), NUMBER(1))
 CALL(create, TEXT(0), BYTES(1), TEXT(2), NUMBER(3), NUMBER(4), BYTES(5), CHARACTERS)
 CALL(recover, TEXT(0), TEXT(1), NUMBER(2), TEXT(3), r->output, r->room)
 CALL(drill, TEXT(0), TEXT(1), NUMBER(2), TEXT(3), NUMBER(4), NUMBER(5), TEXT(6), CHARACTERS)
 CALL(status, TEXT(0), CHARACTERS)
+CALL(judge, TEXT(0), TEXT(1), &r->judgement, CHARACTERS)
 CALL(quorums, TEXT(0))
 CALL(reissue, TEXT(0), TEXT(1), TEXT(2), CHARACTERS)
 CALL(resplit, TEXT(0), TEXT(1), BYTES(2), CHARACTERS)
@@ -104,9 +105,9 @@ static void encrypted(const made_call *c, result *r)
     shamir_parameters found = {(uint16_t)(MARK << 8 | MARK), MARK, MARK};
 
     r->answer = shamir_encrypted(TEXT(0), &found, r->output, r->room);
-    r->share.id = found.id;
-    r->share.extendable = found.extendable;
-    r->share.exponent = found.exponent;
+    r->judgement.share.id = found.id;
+    r->judgement.share.extendable = found.extendable;
+    r->judgement.share.exponent = found.exponent;
 }
 
 static void decrypt(const made_call *c, result *r)
@@ -151,7 +152,7 @@ static const struct {
     {"drill", drill, 7},   {"status", status, 1},               {"reissue", reissue, 3}, {"repair", repair, 1},
     {"fingerprint", fingerprint, 1}, {"words", words, 1},       {"text", text, 6},       {"version", version, 0},
     {"wipe", wipe, 1},     {"quorums", quorums, 1},             {"resplit", resplit, 3}, {"encrypted", encrypted, 1},
-    {"decrypt", decrypt, 6},
+    {"decrypt", decrypt, 6}, {"judge", judge, 2},
 #ifdef MARKED
     {"control", control, 1},
 #endif
@@ -235,7 +236,7 @@ static result begun(const made_call *c)
     uint8_t *block = (uint8_t *)allocated(c->room + 2 * GUARD_BYTES);
 
     memset(&r, 0, sizeof r);
-    memset(&r.share, MARK, sizeof r.share);
+    memset(&r.judgement, MARK, sizeof r.judgement);
     memset(block, MARK, c->room + 2 * GUARD_BYTES);
     r.output = block + GUARD_BYTES;
     r.room = c->room;
@@ -324,10 +325,12 @@ static void write_digits(const uint8_t *bytes, size_t count)
 
 static void write_result(const result *r)
 {
+    const shamir_share *share = &r->judgement.share;
+
     printf("%" PRIu32 " %" PRIu32 " %" PRIu64 " %" PRIu64 " %" PRIu64 " %" PRIu64, r->answer.code, r->answer.mismatches, r->answer.line,
            r->answer.first, r->answer.second, r->answer.written);
-    printf(" %u %u %u %u %u %u %u %u %u ", r->share.id, r->share.extendable, r->share.exponent, r->share.group_index,
-           r->share.group_threshold, r->share.group_count, r->share.member_index, r->share.member_threshold, r->is_changed);
+    printf(" %u %u %u %u %u %u %u %u %u %u ", share->id, share->extendable, share->exponent, share->group_index, share->group_threshold,
+           share->group_count, share->member_index, share->member_threshold, r->judgement.again, r->is_changed);
     write_digits(r->output, r->answer.written <= r->room ? (size_t)r->answer.written : 0);
     printf("%s\n", r->is_changed ? " changed" : "");
 }
@@ -392,7 +395,7 @@ static void *made_in_thread(void *results)
 
 static int are_equal(const result *one, const result *other)
 {
-    return memcmp(&one->answer, &other->answer, sizeof one->answer) == 0 && memcmp(&one->share, &other->share, sizeof one->share) == 0 &&
+    return memcmp(&one->answer, &other->answer, sizeof one->answer) == 0 && memcmp(&one->judgement, &other->judgement, sizeof one->judgement) == 0 &&
         memcmp(one->output, other->output, (size_t)one->answer.written) == 0 && !one->is_changed;
 }
 

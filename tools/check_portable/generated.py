@@ -5,10 +5,10 @@ from typing import Callable, Dict, List
 import driver
 from tool import tool
 
-compare = tool("compare")
+compare, module = tool("compare"), tool("module")
 
 ENOUGH = {"parse": 128, "create": 253440, "recover": 128, "drill": 65536, "status": 1638, "reissue": 253440, "repair": 1980, "resplit": 253440}
-ENOUGH |= {"encrypted": 128, "decrypt": 128}
+ENOUGH |= {"encrypted": 128, "decrypt": 128, "judge": 1638}
 ENOUGH |= {"fingerprint": 8, "words": 7231, "text": 64, "version": 64}
 CODES = [*range(0, 35), 41, 42, 43, 44, 51, 52, *range(61, 69), 71, 72, 99, 2**32 - 1]
 FORMS = [0, 0, 1, 2, 2, 3]
@@ -66,6 +66,11 @@ def status_call(rng: random.Random) -> str:
     return call(rng, "status", compare.made_backup(rng)[0])
 
 
+def judge_call(rng: random.Random) -> str:
+    case = module.judge_case(rng)
+    return call(rng, "judge", case.data, bytes.fromhex(case.words[1]))
+
+
 def quorums_call(rng: random.Random) -> str:
     return call(rng, "quorums", compare.made_backup(rng)[0])
 
@@ -115,7 +120,7 @@ def wipe_call(rng: random.Random) -> str:
 KINDS: Dict[Callable[[random.Random], str], int] = {
     parse_call: 18, random_needed_call: 8, create_call: 5, recover_call: 6, drill_call: 5, status_call: 12, reissue_call: 12,
     repair_call: 14, fingerprint_call: 6, words_call: 6, text_call: 6, version_call: 1, wipe_call: 1,
-    quorums_call: 6, resplit_call: 8, encrypted_call: 8, decrypt_call: 4,
+    judge_call: 10, quorums_call: 6, resplit_call: 8, encrypted_call: 8, decrypt_call: 4,
 }  # fmt: skip
 
 

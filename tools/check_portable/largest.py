@@ -35,6 +35,7 @@ def calls() -> List[str]:
         driver.line("drill", [lines, None, 15, None, MOST, 0, None], LISTING_BYTES),
         driver.line("drill", ["".join(of_two), None, 15, None, MOST, 0, None], LISTING_BYTES),
         driver.line("status", ["".join(of_all[1:])], STATUS_BYTES),
+        driver.line("judge", ["".join(of_all[1:]), of_all[0].strip()], STATUS_BYTES),
         driver.line("quorums", ["".join(of_two)], 0),
         driver.line("reissue", [TWO, NAMES, at_hand], MNEMONICS_BYTES),
         driver.line("resplit", [ALL, lines, drawn(ALL, 5)], MNEMONICS_BYTES),

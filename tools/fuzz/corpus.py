@@ -10,19 +10,20 @@ from typing import Iterator
 
 ROOT = pathlib.Path(__file__).resolve().parents[2]
 # The numbers by which the targets know the calls, and that of the largest room.
-PARSE, RECOVER, ENCRYPTED, DECRYPT, DRILL, STATUS, REISSUE, RESPLIT, REPAIR, FINGERPRINT, CREATE, WORDS = range(12)
+PARSE, RECOVER, ENCRYPTED, DECRYPT, DRILL, STATUS, REISSUE, RESPLIT, REPAIR, FINGERPRINT, CREATE, JUDGE, WORDS = range(13)
 LARGEST = 9
 ASKED = {"parse": PARSE, "recover": RECOVER, "quorums": DRILL, "encrypted": ENCRYPTED, "decrypt": DECRYPT, "create": CREATE, "resplit": RESPLIT}
 
 
 def inputs() -> Iterator[bytes]:
     """Yields two inputs for each case: what it asks, and another call of the same lines."""
-    others = itertools.cycle([PARSE, REPAIR, STATUS, ENCRYPTED, REISSUE, RESPLIT])
+    others = itertools.cycle([PARSE, REPAIR, STATUS, JUDGE, ENCRYPTED, REISSUE, RESPLIT])
     for case in json.loads((ROOT / "vectors" / "vectors.json").read_text())["cases"]:
         given = case["given"]
         lines = "\n".join(given.get("mnemonics", [given.get("mnemonic", given.get("value", given.get("secret", "")))]))
         for call in (ASKED[case["asks"]], next(others)):
-            text = {RECOVER: given.get("passphrase", ""), DRILL: "", DECRYPT: given.get("passphrase", "")}.get(call, given.get("plan", "2of3"))
+            texts = {RECOVER: given.get("passphrase", ""), DRILL: "", DECRYPT: given.get("passphrase", ""), JUDGE: lines.partition("\n")[0]}
+            text = texts.get(call, given.get("plan", "2of3"))
             yield bytes([call, LARGEST]) + f"{text}\0{lines}".encode()
     yield from (bytes([call, LARGEST]) + b"em\0sixteen bytes or" for call in (WORDS, FINGERPRINT))
 

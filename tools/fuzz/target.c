@@ -41,9 +41,10 @@ static shamir_answer call(unsigned which, block text, block lines, block room)
 {
     const uint8_t *bytes = (const uint8_t *)lines.data;
     shamir_parameters parameters = {1, 0, 0};
+    shamir_judgement judgement;
     shamir_share share;
 
-    switch (which % 12) {
+    switch (which % 13) {
     case 0:
         return shamir_parse(lines.data, lines.size, &share, (uint8_t *)room.data, room.size);
     case 1:
@@ -68,6 +69,8 @@ static shamir_answer call(unsigned which, block text, block lines, block room)
         return shamir_create(
             text.data, text.size, bytes, lines.size < 16 ? lines.size : 16, "", 0, 0, 1, bytes, lines.size < 14 ? lines.size : 14, room.data,
             room.size);
+    case 11:
+        return shamir_judge(lines.data, lines.size, text.data, text.size, &judgement, room.data, room.size);
     default:
         return shamir_words(text.data, text.size, room.data, room.size);
     }
@@ -92,12 +95,17 @@ static void check_answer(shamir_answer answer, block room)
 static void check_lines(block lines)
 {
     uint8_t value[SHAMIR_SECRET_BYTES_MAX];
-    char fits[SHAMIR_REPAIRED_BYTES_MAX], status[SHAMIR_STATUS_BYTES_MAX];
+    char fits[SHAMIR_REPAIRED_BYTES_MAX], status[SHAMIR_STATUS_BYTES_MAX], alone[SHAMIR_STATUS_BYTES_MAX];
+    shamir_judgement judgement;
     shamir_share share;
     shamir_answer counted = shamir_quorums(lines.data, lines.size), told = shamir_status(lines.data, lines.size, status, sizeof status);
     shamir_answer parsed = shamir_parse(lines.data, lines.size, &share, value, sizeof value);
     shamir_answer repaired = shamir_repair(lines.data, lines.size, fits, sizeof fits);
+    shamir_answer judged = shamir_judge("", 0, lines.data, lines.size, &judgement, alone, sizeof alone);
 
+    MUST(judged.code == parsed.code && judged.line == 0 && (judged.code != SHAMIR_DONE || !judgement.again));
+    MUST(judged.code != SHAMIR_DONE || told.code != SHAMIR_DONE ||
+         (judged.written == told.written && memcmp(alone, status, (size_t)told.written) == 0));
     MUST(counted.code == told.code && counted.line == told.line);
     MUST(told.code != SHAMIR_DONE || (counted.first > 0) == (told.first >= told.second));
     MUST(parsed.code != SHAMIR_DONE || (repaired.code == SHAMIR_DONE && repaired.first == 1));

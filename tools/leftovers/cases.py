@@ -10,7 +10,7 @@ LENGTHS = [16, 18, 32, 128]
 MANY = ",".join(["16of16"] * 16)
 ROOM = 253440
 # These calls get something secret.
-CALLS = ["parse", "create", "recover", "encrypted", "decrypt", "drill", "status", "quorums", "reissue", "resplit", "repair"]
+CALLS = ["parse", "create", "recover", "encrypted", "decrypt", "drill", "status", "judge", "quorums", "reissue", "resplit", "repair"]
 CALLS += ["fingerprint", "words"]
 
 Argument = Union[bytes, str, int]
@@ -111,8 +111,20 @@ def readings(backup: Backup) -> Iterator[Case]:
         yield Case("status", code, [given, room])
     for code, given in [(0, lines), (0, backup.lines("0.0")), (29, b"")]:
         yield Case("quorums", code, [given, 0])
+    good, other = backup.mnemonics[0], with_fields(backup.shares[1], id=backup.shares[0]["id"] ^ 1)
+    for code, given, line, room in [
+        (0, lines, good, ROOM),
+        (0, other + b"\n" + backup.lines("0.2", "1.0"), good, ROOM),
+        (1, lines, good, 10),
+        (13, lines, wrong_word(good, 9), ROOM),
+        (15, lines, with_fields(backup.shares[0], group_threshold=4), ROOM),
+        (28, lines, other_value(backup.shares[0]), ROOM),
+    ]:
+        yield Case("judge", code, [given, line, room])
     for case in refused_lines(backup):
         yield case
+        if case.code != 21:
+            yield Case("judge", case.code, [case.arguments[0], good, ROOM])
         yield Case("quorums", case.code, [case.arguments[0], 0])
         yield Case("recover", case.code, [case.arguments[0], PASSPHRASE, 15, "", 128])
         yield Case("drill", case.code, [case.arguments[0], PASSPHRASE, 15, "", 9, 0, "", ROOM])
@@ -219,6 +231,8 @@ def greatest(backup: Backup) -> Iterator[Case]:
     yield Case("drill", 0, [lines, PASSPHRASE, 15, "", 2, 0, "", ROOM])
     yield Case("status", 0, [lines, ROOM])
     yield Case("quorums", 0, [lines, 0])
+    yield Case("judge", 0, [lines, backup.mnemonics[-1], ROOM])
+    yield Case("judge", 0, [lines[: lines.rindex(b"\n", 0, -1) + 1], backup.mnemonics[-1], ROOM])
     yield Case("reissue", 0, [backup.plan, "15.15", lines[: lines.rindex(b"\n", 0, -1) + 1], ROOM])
 
 

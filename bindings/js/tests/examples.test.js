@@ -144,8 +144,10 @@ test("drill copies its arguments at once", () => {
 test("status", () => {
   const group = { group: 0, threshold: 2, names: ["0.0", "0.2"] };
   const found = shamir.status([FIVE[4], FIVE[2], FIVE[0], FIVE[2]]);
-  assert.deepEqual(found, { complete: 2, required: 2, enough: true, groups: [group, { group: 2, threshold: 1, names: ["2.0"] }] });
-  const few = { complete: 0, required: 1, enough: false, groups: [{ group: 0, threshold: 2, names: ["0.2"] }] };
+  const text = "groups 2 of 2\ngroup 0 members 2 of 2 0.0+0.2\ngroup 2 members 1 of 1 2.0";
+  assert.deepEqual(found, { complete: 2, required: 2, enough: true, groups: [group, { group: 2, threshold: 1, names: ["2.0"] }], text });
+  const groups = [{ group: 0, threshold: 2, names: ["0.2"] }];
+  const few = { complete: 0, required: 1, enough: false, groups, text: "groups 0 of 1\ngroup 0 members 1 of 2 0.2" };
   assert.deepEqual(shamir.status(TWO.slice(0, 1)), few);
 });
 
@@ -208,6 +210,16 @@ test("resplit draws random bytes anew, and others for those that give the old id
   } finally {
     crypto.getRandomValues = getRandomValues;
   }
+});
+
+test("judge", () => {
+  const { value, ...share } = shamir.parse(FIVE[4]);
+  const status = shamir.status([...FIVE.slice(0, 3), FIVE[4]]);
+  assert.deepEqual(shamir.judge(FIVE.slice(0, 3), FIVE[4]), { share, again: false, status });
+  assert.deepEqual(shamir.judge([ONE, ...FIVE.slice(0, 3), TWO[0]], FIVE[4]), { share, again: false, status });
+  assert.deepEqual(shamir.judge(FIVE, bytesOf(FIVE[4].toUpperCase())), { share, again: true, status: shamir.status(FIVE) });
+  assert.deepEqual(shamir.judge([], TWO[0]).status, shamir.status(TWO.slice(0, 1)));
+  assert.equal(value.length, 16);
 });
 
 test("fingerprint", () => {

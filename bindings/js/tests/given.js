@@ -37,6 +37,9 @@ export const MISMATCHED_GROUPS = [
 // This would be member 3 of group 0 of the backup of FIVE, if PLAN gave that group four members. Another program made it.
 export const FOURTH =
   "academic aluminum acrobat marathon crisis luxury step activity teammate unfair fumes endorse always ranked alto problem mailman ounce teacher bumpy";
+// This has the name of the first mnemonic of FIVE, and another value. Another program made it.
+export const CONFLICTING =
+  "academic aluminum acrobat leaf civil drink heat negative damage union purchase photo inmate training amazing yield bucket lend glance junk";
 
 // EXTENDABLE is a published vector. With the random bytes 0 to 25, SPLIT_ANEW is the backup by PLAN into which it is split anew. The second
 // member has another first byte of its value in EXTENDABLE_FORGED. Another program made these two.

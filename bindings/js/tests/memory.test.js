@@ -3,7 +3,7 @@ import assert from "node:assert/strict";
 import test from "node:test";
 import { Refusal } from "../shamir.js";
 import { FIVE, FIVE_QUORUMS, Instance, MISMATCHED, ONE, PLAN, SECRET, TWO } from "./given.js";
-import { ENCRYPTED, EXTENDABLE, bytesOf, counting, file, hex, instances, module, refused, shamir } from "./given.js";
+import { CONFLICTING, ENCRYPTED, EXTENDABLE, bytesOf, counting, file, hex, instances, module, refused, shamir } from "./given.js";
 
 const [{ exports }] = instances;
 const FRESH = memoryOf(new Instance(module));
@@ -46,6 +46,8 @@ const CALLS = {
   "drill, refused": () => [...shamir.drill(FIVE, { after: "0.1" })],
   status: () => shamir.status(FIVE),
   "status, refused": () => shamir.status([...FIVE, ONE]),
+  judge: () => shamir.judge(FIVE, FIVE[0]),
+  "judge, refused": () => shamir.judge(FIVE, CONFLICTING),
   quorums: () => shamir.quorums(FIVE),
   "quorums, refused": () => shamir.quorums([...FIVE, ONE]),
   reissue: () => shamir.reissue(PLAN, "0.0+0.1", FIVE.slice(2)),
@@ -126,6 +128,7 @@ test("the greatest calls use no more of the stack than the header names", () => 
     assert.equal([...shamir.drill(most)].length, 16);
     assert.deepEqual(shamir.reissue(`15/${GROUPS}`, "0.0", lost.slice(1)), lost.slice(0, 1));
     assert.equal(shamir.status(all).complete, 16);
+    assert.equal(shamir.judge(all, all[255]).again, true);
   } finally {
     Uint8Array.prototype.fill = fill;
   }
@@ -163,6 +166,9 @@ test("copies of arguments and of the output are cleared", () => {
   assert.ok(cleared(() => shamir.encrypted(FIVE)).includes(FIVE.join("\n") + "\n"));
   assert.ok(cleared(() => shamir.fingerprint(SECRET)).includes("df41d8fe"));
   assert.ok(cleared(() => shamir.status(FIVE)).some((text) => text.includes("group 0 members 3 of 2 0.0+0.1+0.2\n")));
+  const judged = cleared(() => shamir.judge(FIVE.slice(1), FIVE[0]));
+  for (const text of [FIVE[0], FIVE.slice(1).join("\n") + "\n"]) assert.ok(judged.includes(text));
+  assert.ok(judged.some((text) => text.includes("group 0 members 3 of 2 0.0+0.1+0.2\n")));
   const split = cleared(() => shamir.resplit("1of1", EXTENDABLE, { random: Uint8Array.of(0x12, 0x34) }));
   for (const text of ["\x12\x34", EXTENDABLE[0]]) assert.ok(split.includes(text));
   const refusals = cleared(() => assert.throws(() => shamir.recover(FIVE, { passphrase: "TREZOR\x07" }), Refusal));

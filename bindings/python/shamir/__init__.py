@@ -31,8 +31,8 @@ Calls share no data, so any number of threads can make calls at once. A call use
 thread with a smaller `threading.stack_size` can crash the program; 1,048,576 is enough for every call. The library
 clears the stack of each call that gets a secret, and the package the buffer of its output. It doesn't clear what Python
 keeps: the arguments, their copies, the random bytes that it draws, and the results. `recover_into`, `encrypted_into` and
-`decrypt_into` leave nothing secret but in the buffers of their caller, who can clear a bytearray. A drill with fingerprints, or
-with an expected one, gets no secret from the library.
+`decrypt_into` leave nothing secret but in the buffers of their caller, who can clear a bytearray. `Papers` keeps mnemonics in
+bytearrays, and clears them. A drill with fingerprints, or with an expected one, gets no secret from the library.
 """
 from __future__ import annotations
 
@@ -44,12 +44,12 @@ import operator
 import os
 import pathlib
 from dataclasses import dataclass, field
-from typing import Any, Callable, Generator, Iterable, List, Optional, Tuple, Union, cast
+from typing import Any, Callable, Dict, Generator, Iterable, List, Optional, Tuple, Union, cast
 
-__all__ = ["Code", "Data", "EXPONENT_MAX", "EncryptedSecret", "GroupStatus", "Lines", "OF_GROUPS", "Outcome", "Refusal"]
-__all__ += ["Share", "Status", "Text"]
-__all__ += ["create", "decrypt", "decrypt_into", "drill", "encrypted", "encrypted_into", "fingerprint", "library_version", "parse", "quorums"]
-__all__ += ["random_needed", "recover", "recover_into", "reissue", "repair", "resplit", "status", "words"]
+__all__ = ["Code", "Data", "EXPONENT_MAX", "EncryptedSecret", "GroupStatus", "Judgement", "Lines", "OF_GROUPS", "Outcome", "Papers", "Refusal"]
+__all__ += ["Share", "ShareFields", "Status", "Text"]
+__all__ += ["create", "decrypt", "decrypt_into", "drill", "encrypted", "encrypted_into", "fingerprint", "judge", "library_version", "parse"]
+__all__ += ["quorums", "random_needed", "recover", "recover_into", "reissue", "repair", "resplit", "status", "words"]
 
 __version__ = "1.0.0"
 
@@ -215,6 +215,12 @@ class _Share(ctypes.Structure):
     ]
 
 
+class _Judgement(ctypes.Structure):
+    share: _Share
+    again: int
+    _fields_ = [("share", _Share), ("again", ctypes.c_uint8)]
+
+
 class _Parameters(ctypes.Structure):
     id: int
     extendable: int
@@ -257,6 +263,7 @@ def _declared(library: ctypes.CDLL) -> ctypes.CDLL:
         ("shamir_decrypt", [ctypes.POINTER(_Parameters)] + _SLICE * 3 + _ROOM),
         ("shamir_drill", _SLICE * 2 + [ctypes.c_uint32] + _SLICE + [ctypes.c_uint32] * 2 + _SLICE + _ROOM),
         ("shamir_status", _SLICE + _ROOM),
+        ("shamir_judge", _SLICE * 2 + [ctypes.POINTER(_Judgement)] + _ROOM),
         ("shamir_quorums", _SLICE),
         ("shamir_reissue", _SLICE * 3 + _ROOM),
         ("shamir_resplit", _SLICE * 3 + _ROOM),
@@ -275,18 +282,73 @@ def _declared(library: ctypes.CDLL) -> ctypes.CDLL:
 _library = _loaded()
 
 
+# The names of the details of a refusal, by its code: of the first, and of the second if there is one.
+_DETAILS: Dict[int, Tuple[str, ...]] = {
+    Code.TOO_SHORT: ("needed",),
+    Code.HIGH_EXPONENT: ("exponent",),
+    Code.UNKNOWN_WORD: ("word",),
+    Code.WORD_COUNT: ("words",),
+    Code.WRONG_WORD: ("word",),
+    Code.UNREADABLE_WORDS: ("open",),
+    Code.OTHER_MEMBER_THRESHOLD: ("group",),
+    Code.CONFLICTING_SHARE: ("group", "member"),
+    Code.INCOMPLETE: ("complete", "required"),
+    Code.PLAN_MEMBERS: ("group",),
+    Code.ONE_OF_MANY: ("group",),
+    Code.PASSPHRASE: ("byte",),
+    Code.SECRET_LENGTH: ("bytes",),
+    Code.RANDOM_LENGTH: ("needed",),
+    Code.DIGEST_MISMATCH: ("group",),
+    Code.NOT_IN_PLAN: ("group", "member"),
+}
+
+
 class Refusal(Exception):
     """The library refuses the arguments of a call.
 
     `code` is the cause, and `text` says it in words. The code is a member of `Code`, or an int if a later library gives a
     code that this version of the package doesn't know. `line` is the number of the refused line, counted from 1, or
-    None. `details` are two numbers, and `Code` says for each code what they mean. For Code.INCOMPLETE they are the
-    number of complete groups and the group threshold.
+    None. `details` are two numbers, and `Code` says for each code what they mean.
+
+    These fields have the details by their names. Each is None if the code doesn't have it.
+
+    needed: how many bytes are needed (1, 43)
+    exponent: the exponent of the mnemonics (3)
+    word: which word of the line it is, counted from 1 (11, 18)
+    words: the number of words (12)
+    open: how many places of a line are open (19)
+    group, member: the name of a mnemonic (28, 64, 66); or the group alone (27, 33, 34, 51; for 51 it can be OF_GROUPS)
+    complete, required: how many groups are complete, and the group threshold (30)
+    byte: which byte of the passphrase it is, counted from 1 (41)
+    bytes: the number of bytes (42)
+    members, member_threshold, groups, group_threshold: how many members of the group are at hand and how many are needed, and how
+        many other groups are complete and how many are needed (66)
     """
+
+    needed: Optional[int] = None
+    exponent: Optional[int] = None
+    word: Optional[int] = None
+    words: Optional[int] = None
+    open: Optional[int] = None
+    group: Optional[int] = None
+    member: Optional[int] = None
+    complete: Optional[int] = None
+    required: Optional[int] = None
+    byte: Optional[int] = None
+    bytes: Optional[int] = None
+    members: Optional[int] = None
+    member_threshold: Optional[int] = None
+    groups: Optional[int] = None
+    group_threshold: Optional[int] = None
 
     def __init__(self, code: Union[Code, int], line: Optional[int], details: Tuple[int, int], text: str):
         super().__init__(code, line, details, text)
         self.code, self.line, self.details, self.text = code, line, details, text
+        for name, detail in zip(_DETAILS.get(code, ()), details):
+            setattr(self, name, detail)
+        if code == Code.UNDETERMINED:
+            self.group, self.member = divmod(details[0], 256)
+            self.members, self.member_threshold, self.groups, self.group_threshold = details[1].to_bytes(8, "big")[4:]
 
     def __str__(self) -> str:
         place = f"line {self.line}: " if self.line else ""
@@ -294,11 +356,8 @@ class Refusal(Exception):
 
 
 @dataclass(frozen=True)
-class Share:
-    """The fields and the value of a mnemonic.
-
-    Groups and members are numbered from 0. `value` is as secret as the mnemonic, and the repr leaves it out.
-    """
+class ShareFields:
+    """The fields of a mnemonic, without its value. Groups and members are numbered from 0."""
 
     id: int
     extendable: bool
@@ -308,6 +367,15 @@ class Share:
     group_count: int
     member_index: int
     member_threshold: int
+
+
+@dataclass(frozen=True)
+class Share(ShareFields):
+    """The fields and the value of a mnemonic.
+
+    Groups and members are numbered from 0. `value` is as secret as the mnemonic, and the repr leaves it out.
+    """
+
     value: bytes = field(repr=False)
 
 
@@ -352,19 +420,37 @@ class GroupStatus:
     threshold: int
     names: Tuple[str, ...]
 
+    def __str__(self) -> str:
+        return f"group {self.group} members {len(self.names)} of {self.threshold} {'+'.join(self.names)}"
+
 
 @dataclass(frozen=True)
 class Status:
-    """The number of complete groups, the group threshold, and each group that has members among the mnemonics."""
+    """The number of complete groups, the group threshold, and each group that has members among the mnemonics.
+
+    `str` gives what the command status prints, without the last line feed.
+    """
 
     complete: int
     required: int
     groups: Tuple[GroupStatus, ...]
 
+    def __str__(self) -> str:
+        return "\n".join([f"groups {self.complete} of {self.required}", *map(str, self.groups)])
+
     @property
     def enough(self) -> bool:
         """Whether the mnemonics have a quorum. If they do, `recover` doesn't refuse them as incomplete."""
         return self.complete >= self.required
+
+
+@dataclass(frozen=True)
+class Judgement:
+    """What a mnemonic is beside others: its fields, whether its share is `again` among them, and the status of its backup with it."""
+
+    share: ShareFields
+    again: bool
+    status: Status
 
 
 def _data(data: Data) -> bytes:
@@ -477,11 +563,15 @@ class _Copies:
         for copy in self._kept:
             _library.shamir_wipe(copy, len(copy))
 
+    def room(self, length: int) -> Any:
+        """Return a buffer of this length."""
+        self._kept.append(ctypes.create_string_buffer(length))
+        return self._kept[-1]
+
     def joined(self, parts: List[memoryview]) -> Tuple[Any, int]:
         """Return a copy of these parts with a line feed between them, and its length. It passes through no other object."""
         length = sum(part.nbytes for part in parts) + len(parts) - 1
-        copy = ctypes.create_string_buffer(length)
-        self._kept.append(copy)
+        copy = self.room(length)
         room, at = memoryview(copy).cast("B"), 0
         for number, part in enumerate(parts):
             if number:
@@ -529,8 +619,12 @@ def parse(mnemonic: Text) -> Share:
     """
     fields, line = _Share(), _bytes(mnemonic)
     value = _filled(lambda out, room: _library.shamir_parse(*_slice(line), ctypes.byref(fields), out, room), SECRET_BYTES_MAX)
-    header = {name: getattr(fields, name) for name, *_ in _Share._fields_}
-    return Share(**{**header, "extendable": bool(header["extendable"])}, value=value)
+    return Share(**_fields(fields), value=value)
+
+
+def _fields(share: _Share) -> Dict[str, Any]:
+    found = {name: getattr(share, name) for name, *_ in _Share._fields_}
+    return {**found, "extendable": bool(found["extendable"])}
 
 
 def random_needed(plan: Text, secret_bytes: int) -> int:
@@ -802,7 +896,11 @@ def status(lines: Lines) -> Status:
     Raises `Refusal` with one of the codes 11 to 29 or 71.
     """
     given = _slice(_joined(lines))
-    first, *groups = _filled(lambda out, room: _library.shamir_status(*given, out, room), STATUS_BYTES_MAX).decode().splitlines()
+    return _status(_filled(lambda out, room: _library.shamir_status(*given, out, room), STATUS_BYTES_MAX))
+
+
+def _status(text: bytes) -> Status:
+    first, *groups = text.decode().splitlines()
     _, complete, _, required = first.split(" ")
     return Status(int(complete), int(required), tuple(map(_group_status, groups)))
 
@@ -811,6 +909,94 @@ def _group_status(line: str) -> GroupStatus:
     """Read a line `group G members N of T NAMES`."""
     _, group, _, _, _, threshold, names = line.split(" ")
     return GroupStatus(int(group), int(threshold), tuple(names.split("+")))
+
+
+def judge(lines: Lines, mnemonic: Text) -> Judgement:
+    """Judge a mnemonic beside those that came before it: whether it can be taken, whether it is there already, and what its backup
+    has with it.
+
+    >>> found = shamir.judge(mnemonics[:1], mnemonics[1])
+    >>> found.again, found.status.enough
+    (False, True)
+
+    `lines` is as for `recover`, but its mnemonics may be of several backups. Those with the same identifier are taken for those of one
+    backup. `mnemonic` is as for `parse`. The status is that of the lines with its identifier, and of itself. If the mnemonic is
+    refused, the refusal has no `line`. `Papers` keeps the lines.
+
+    The call leaves no copy of what it gets behind, except of a str.
+
+    Raises `Refusal` with one of the codes 11 to 15, 22 to 28, or 71.
+    """
+    found = _Judgement()
+    with _Copies() as own:
+        given = own.lines(_clearable(lines)) + own.data(_encoded(mnemonic) if isinstance(mnemonic, str) else mnemonic)
+        text = _filled(lambda out, room: _library.shamir_judge(*given, ctypes.byref(found), out, room), STATUS_BYTES_MAX)
+    return Judgement(ShareFields(**_fields(found.share)), bool(found.again), _status(text))
+
+
+def _clearable(lines: Lines) -> ClearableLines:
+    """Return lines without a str among them. What isn't a str isn't copied."""
+    if isinstance(lines, str) or _lends(lines):
+        return _encoded(lines) if isinstance(lines, str) else cast(Data, lines)
+    return [_encoded(line) if isinstance(line, str) else line for line in cast(Iterable[Text], lines)]
+
+
+class Papers:
+    """Mnemonics as they come, one after the other, of one backup or of several. The library decides about each.
+
+    >>> papers = shamir.Papers()
+    >>> for mnemonic in mnemonics[:2]:
+    ...     found = papers.add(mnemonic)
+    >>> shamir.recover(papers.lines(found.share.id), passphrase="TREZOR") == secret
+    True
+
+    If the first papers are of another backup than the rest, they stay apart from it. The lines are bytearrays, which `clear` and the
+    end of a `with` block clear. A str that is added can't be cleared.
+    """
+
+    def __init__(self) -> None:
+        self._kept: List[Tuple[int, bytearray]] = []
+
+    def __enter__(self) -> Papers:
+        return self
+
+    def __exit__(self, *_: object) -> None:
+        self.clear()
+
+    def add(self, mnemonic: Text) -> Judgement:
+        """Judge a mnemonic beside all that are here, as `judge` does, and keep it unless it is here already.
+
+        It is kept in lower-case words with single spaces. If it is refused, `Refusal` is raised, and nothing is kept.
+        """
+        data = _encoded(mnemonic) if isinstance(mnemonic, str) else mnemonic
+        found = judge((line for _, line in self._kept), data)
+        if not found.again:
+            self._kept.append((found.share.id, _respelled(data)))
+        return found
+
+    @property
+    def ids(self) -> List[int]:
+        """The identifiers of the backups, in the order in which they came."""
+        return list(dict.fromkeys(id for id, _ in self._kept))
+
+    def lines(self, id: int) -> List[bytearray]:
+        """Return the mnemonics of the backup with an identifier, as they came. The calls that take lines take them. They are the
+        object's own: `clear` clears them."""
+        return [line for other, line in self._kept if other == id]
+
+    def clear(self) -> None:
+        """Clear all lines, and forget them."""
+        for _, line in self._kept:
+            _library.shamir_wipe(*_room(line))
+        self._kept = []
+
+
+def _respelled(mnemonic: Data) -> bytearray:
+    """Return a mnemonic as the library writes it, in a bytearray of its own. No other copy is left."""
+    with _Copies() as own:
+        room = own.room(REPAIRED_BYTES_MAX)
+        answer = _checked(_library.shamir_repair(*own.data(mnemonic), room, REPAIRED_BYTES_MAX))
+        return bytearray(memoryview(room)[: answer.written - 1])
 
 
 def quorums(lines: Lines) -> int:

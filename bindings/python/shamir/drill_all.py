@@ -113,12 +113,20 @@ def earlier(path: str, drill: Drill, whole: Quorums) -> Tuple[int, bool, bool]:
     return len(lines), all(wells), is_ended
 
 
+def is_watched() -> bool:
+    return os.isatty(2)
+
+
+def clear_row() -> None:
+    devices.say("\r\x1b[K")
+
+
 class Progress:
     """What standard error says to a person while the drill runs."""
 
     def __init__(self, done: int, total: int):
         self.first, self.total, self.begun, self.told = done, total, time.monotonic(), 0.0
-        self.is_shown = os.isatty(2)
+        self.is_shown = is_watched()
 
     def tell(self, done: int) -> None:
         now = time.monotonic()
@@ -130,7 +138,7 @@ class Progress:
 
     def end(self) -> None:
         if self.told:
-            devices.say("\r\x1b[K")
+            clear_row()
 
 
 def said_time(seconds: float) -> str:
@@ -222,6 +230,9 @@ def main() -> None:
     except (OSError, devices.DeviceFailed) as error:
         status, why = 3, f"a file can't be read or written: {getattr(error, 'strerror', None) or error}"
     except KeyboardInterrupt:
+        if is_watched():
+            # What was said stands alone in its row, and not behind the progress.
+            clear_row()
         status, why = 130, "interrupted" + ("; the same command goes on" if args.into else "")
     if why:
         tell(f"shamir.drill_all: {why}\n")

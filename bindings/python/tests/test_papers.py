@@ -23,7 +23,7 @@ from shamir.papers.drill import said_total, verdict_of  # noqa: E402
 from shamir.papers.entry import Entry, said_count  # noqa: E402
 from shamir.papers.found import ask_paper  # noqa: E402
 from shamir.papers.paste import papers_in  # noqa: E402
-from shamir.papers.plan import plan_of, said_dangers, said_plan, said_singles, said_takes  # noqa: E402
+from shamir.papers.plan import plain_plan, plan_of, said_dangers, said_plan, said_singles, said_takes  # noqa: E402
 from shamir.papers.quorums import Tried, quorum_with, suspects  # noqa: E402
 from shamir.papers.spelling import Misplaced, continued, has_idle_number, nearest, numbers_of, parts_of, placed, said_empty, seems_bip39  # noqa: E402
 from shamir.papers.texts import OWN, TABLE, TASKS, _page, say  # noqa: E402
@@ -59,7 +59,7 @@ class Scripted:
     def tell(self, text, style=""):
         self.told.append(text)
 
-    tell_seen = tell
+    tell_seen = fault = tell
 
     def item(self, text, mark="- "):
         self.told.append(text)
@@ -470,6 +470,9 @@ class PlanTests(unittest.TestCase):
             shamir.random_needed(text, 16)
             self.assertEqual(plan_of(text).text, text)
         self.assertEqual(plan_of("1/2of3").text, "2of3")
+        for typed in ("2 of 3", "2-of-3", "2OF3", " 2 - of - 3 "):
+            self.assertEqual(plain_plan(typed), "2of3")
+        self.assertEqual(plain_plan("2/2of3, 1-of-1"), "2/2of3,1of1")
         self.assertEqual(plan_of("2/2of3,1of1").names, ["0.0", "0.1", "0.2", "1.0"])
 
     def test_sentences(self):

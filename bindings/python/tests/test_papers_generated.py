@@ -75,6 +75,9 @@ class Guessed(KeysAside):
         self.keys = []
         return False
 
+    def put_back(self, typed):
+        self.keys = [*typed, *self.keys]
+
     def heed_interrupt(self):
         pass
 

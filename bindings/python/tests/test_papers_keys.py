@@ -81,6 +81,8 @@ class LineTests(unittest.TestCase):
     def test_hidden(self):
         typed, terminal = self.typed(b"secret\x7ft\x15TREZOR\n", is_hidden=True)
         self.assertEqual((typed, terminal.shown), ("TREZOR", "? \n"))
+        # A tab of a paste isn't lost, so the library can refuse it.
+        self.assertEqual(self.typed(b"a\tbc\x7f\n", is_hidden=True)[0], "a\tb")
 
     def test_too_long(self):
         """A line that is cut says so until it is emptied."""
@@ -114,7 +116,7 @@ class KeysAside(Keys):
     is_held = tells_size = was_held = False
 
     def drop_typed(self):
-        pass
+        return False
 
     @contextlib.contextmanager
     def aside(self):

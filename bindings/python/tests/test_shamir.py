@@ -95,6 +95,12 @@ for part in (passphrase, lines, room, other):
 os.write(1, b"done\\n")
 os.read(0, 1)
 """
+LEFT_PAPERS = """
+with memoryview(lines) as view, shamir.Papers() as papers:
+    for line in (view[:138], view[139:]):
+        papers.add(line)
+    shamir.recover_into(room, papers.lines(9066), passphrase=passphrase)
+"""
 LEFT_SECRET = shamir.recover(EXTENDABLE, passphrase="TREZORTREZOR")
 
 
@@ -308,6 +314,7 @@ class WorkedExamples(unittest.TestCase):
         for call, left in [
             ("shamir.recover_into(room, lines, passphrase=passphrase)", False),
             ("shamir.decrypt_into(room, shamir.encrypted_into(other, [lines[:138], lines[139:]]), passphrase=passphrase)", False),
+            (LEFT_PAPERS, False),
             ("kept = shamir.recover(lines, passphrase=passphrase)", True),
         ]:
             run = [sys.executable, "-B", "-c", LEFT.format(call=call)]
@@ -895,6 +902,8 @@ class WorkedExamples(unittest.TestCase):
         self.assertEqual(library.shamir_words(None, 0, None, 0).first, shamir.WORDS_BYTES_MAX)
         self.assertEqual(library.shamir_words(b"x", 1, None, 0).code, 0)
         self.assertEqual(library.shamir_status(None, 0, None, 0).code, 29)
+        self.assertEqual(library.shamir_judge(None, 0, None, 0, shamir._Judgement(), None, 0).code, 12)
+        self.assertEqual(library.shamir_judge(None, 0, ONE.encode(), len(ONE), shamir._Judgement(), None, 0).code, 1)
         self.assertEqual(library.shamir_reissue(None, 0, None, 0, None, 0, None, 0).code, 31)
         self.assertEqual(library.shamir_reissue(b"2of2", 4, None, 0, None, 0, None, 0).code, 63)
         self.assertEqual(library.shamir_resplit(None, 0, None, 0, None, 0, None, 0).code, 31)

@@ -2,8 +2,12 @@
 //!
 //! Each line of the input is a command and its values. A value is a point and hexadecimal digits, or `-` for none. Each line of the
 //! output has what the command writes to standard output and to standard error, both in this form.
-use shamir::{CreateOptions, DecryptOptions, Drill, EncryptedSecret, Error, Found, Plan, RecoverOptions, Secret, Share, Status};
-use shamir::{create, create_with, decrypt, encrypted, fingerprint, parse, recover, reissue, repair, resplit, status, words};
+use shamir::{
+    CreateOptions, DecryptOptions, Drill, EncryptedSecret, Error, Found, Plan, RecoverOptions, Secret, ShareFields, Status,
+};
+use shamir::{
+    create, create_with, decrypt, encrypted, fingerprint, judge, parse, recover, reissue, repair, resplit, status, words,
+};
 use std::fmt::Write;
 use std::io::{self, BufRead};
 
@@ -27,9 +31,9 @@ fn number(value: &[u8]) -> u32 {
     text(value).parse().expect("a number")
 }
 
-fn show(share: &Share) -> String {
+fn fields(share: &ShareFields) -> String {
     format!(
-        "identifier {} extendable {} exponent {} group {} group-threshold {} group-count {} member {} member-threshold {} value {}\n",
+        "identifier {} extendable {} exponent {} group {} group-threshold {} group-count {} member {} member-threshold {}",
         share.id,
         u8::from(share.extendable),
         share.exponent,
@@ -37,8 +41,7 @@ fn show(share: &Share) -> String {
         share.group_threshold,
         share.group_count,
         share.member_index,
-        share.member_threshold,
-        hex(share.value.as_bytes())
+        share.member_threshold
     )
 }
 
@@ -104,20 +107,20 @@ fn drilled(drill: Drill<'_>, limit: usize) -> Result<String, Error> {
 
 fn statuses(status: &Status) -> String {
     assert_eq!(status.is_enough(), status.complete >= status.required);
-    let mut told = format!("groups {} of {}\n", status.complete, status.required);
     for group in status.groups() {
-        let names: Vec<String> = group.names().map(|name| name.to_string()).collect();
-        let (group, threshold) = (group.group, group.threshold);
-        writeln!(told, "group {group} members {} of {threshold} {}", names.len(), names.join("+")).expect("a string takes all");
+        assert_eq!(group.names().count(), group.members().count());
     }
-    told
+    format!("{status}\n")
 }
 
 /// Gives what a command writes to standard output, or its refusal.
 fn answer(command: &str, values: &[Value]) -> Result<String, Error> {
     let given: Vec<&[u8]> = values.iter().map(|value| value.as_deref().unwrap_or_default()).collect();
     match (command, given.as_slice()) {
-        ("show", [line]) => Ok(show(&parse(line)?)),
+        ("show", [line]) => {
+            let share = parse(line)?;
+            Ok(format!("{} value {}\n", fields(&ShareFields::from(&share)), hex(share.value.as_bytes())))
+        }
         ("words", [letters]) => Ok(words(letters).iter().fold(String::new(), |lines, word| lines + word + "\n")),
         ("create", [plan, secret, passphrase, exponent, extendable, random]) => {
             let options =
@@ -145,6 +148,11 @@ fn answer(command: &str, values: &[Value]) -> Result<String, Error> {
             drilled(drill, number(limit) as usize)
         }
         ("status", [lines]) => Ok(statuses(&status(lines)?)),
+        ("judge", [line, lines]) => {
+            let found = judge(lines, line)?;
+            let told = if found.again { "again" } else { "new" };
+            Ok(format!("{told} {}\n{}", fields(&found.share), statuses(&found.status)))
+        }
         ("reissue", [plan, names, lines]) => Ok(reissue(&text(plan).parse()?, names, lines)?.as_str().into()),
         ("resplit", [plan, random, lines]) => Ok(resplit(&text(plan).parse()?, lines, random)?.as_str().into()),
         ("repair", [line]) => Ok(repair(line)?.as_str().into()),

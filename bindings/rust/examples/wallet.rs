@@ -1,113 +1,75 @@
 //! Four clients of the crate. The first line of standard input is the passphrase, except for `repair`. Papers are the lines after it, or
-//! those of a file. FINGERPRINT is what `make` told.
+//! those of a file. FINGERPRINT is what `make` told. Enter stops a drill. `cargo run --example wallet make 2of3` runs the first.
 //!
-//! ```text
-//! cargo run --example wallet make PLAN
-//! cargo run --example wallet recover FINGERPRINT
-//! cargo run --example wallet drill FINGERPRINT FILE      # Enter stops it
-//! cargo run --example wallet repair
-//! ```
-//!
-//! To stay short, it shows what is typed, and keeps it in a `String`, which isn't cleared. A wallet hides the passphrase, and keeps papers
-//! in `Mnemonics`.
-use shamir::{CreateOptions, Drill, Error, Found, Plan, RecoverOptions, Secret};
-use std::sync::atomic::{AtomicBool, Ordering};
-use std::{fs::File, io, io::Read};
+//! To stay short, it shows what is typed, and keeps it in a `String`, which isn't cleared. A wallet hides and clears it.
+use shamir::{CreateOptions, Drill, Found, Papers, RecoverOptions, Secret};
+use std::{error::Error, fs, io, io::Read, thread};
 
-static STOPPED: AtomicBool = AtomicBool::new(false);
-
-/// Says what is wrong, and what to do. If the checksum of a paper is wrong, `repair` says whether one word can be.
-fn told(error: &Error, paper: &str) -> String {
-    if let (Error::BadChecksum { .. }, false, Err(closer)) = (error, paper.is_empty(), shamir::repair(paper)) {
-        return told(&closer, "");
-    }
-    let advice = match error.code() {
-        13 => ": put ? for the words that can't be read, and repair the line",
-        18 => ": read this word again",
-        51 => ": a paper isn't of this backup, or was changed: drill all papers",
-        52 => ": the passphrase is another one, or the papers are",
-        _ => "",
-    };
-    let (text, line) = (error.to_string(), error.line().map_or(String::new(), |line| format!("line {line}: ")));
-    format!("{}{advice}", text.trim_start_matches(&line))
-}
-
-fn make(passphrase: &str, plan: &str) -> Result<(), Box<dyn std::error::Error>> {
-    let mut source = File::open("/dev/urandom")?;
-    let mut draw = |room: &mut [u8]| source.read_exact(room).map_err(Box::<dyn std::error::Error>::from);
+fn make(passphrase: &str, plan: &str) -> Result<(), Box<dyn Error>> {
+    let mut source = fs::File::open("/dev/urandom")?;
+    let mut draw = |room: &mut [u8]| source.read_exact(room).map_err(Box::<dyn Error>::from);
     let secret = Secret::draw(16, &mut draw)?;
     let options = CreateOptions::new().passphrase(passphrase).exponent(1).extendable(true);
-    print!("{}", shamir::create_with(&plan.parse::<Plan>()?, &secret, &options, &mut draw)?.as_str());
+    print!("{}", shamir::create_with(&plan.parse()?, &secret, &options, draw)?.as_str());
     println!("# fingerprint {}", shamir::fingerprint(&secret));
     Ok(())
 }
 
-fn recover(passphrase: &str, noted: &str) -> Result<(), Box<dyn std::error::Error>> {
-    let (mut papers, mut before) = (String::new(), None);
+fn recover(options: &RecoverOptions<'_>) -> Result<(), Box<dyn Error>> {
+    let mut papers = Papers::new();
     for paper in io::stdin().lines() {
-        let paper = paper?;
-        let more = format!("{papers}{paper}\n");
-        let status = match shamir::status(&more) {
-            Ok(status) => status,
-            Err(error) => {
-                println!("{}", told(&error, &paper));
-                continue;
+        match papers.add(paper?) {
+            Err(refusal) => println!("{refusal}"),
+            Ok(found) => {
+                println!("{}{}", if found.again { "again\n" } else { "" }, found.status);
+                if found.status.is_enough() {
+                    let secret = shamir::recover(papers.lines(found.share.id), options)?;
+                    println!("fingerprint {}", shamir::fingerprint(&secret));
+                    return Ok(());
+                }
             }
-        };
-        if before == Some(status) {
-            println!("again");
-        } else {
-            println!("groups {} of {}", status.complete, status.required);
-        }
-        for group in status.groups() {
-            let names: Vec<String> = group.names().map(|name| name.to_string()).collect();
-            println!("group {} has {}, {} are needed", group.group, names.join("+"), group.threshold);
-        }
-        (before, papers) = (Some(status), more);
-        if status.is_enough() {
-            let secret = shamir::recover(&papers, &RecoverOptions::new().passphrase(passphrase).expected(noted))?;
-            println!("fingerprint {}", shamir::fingerprint(&secret));
-            return Ok(());
         }
     }
     Err("more papers are needed".into())
 }
 
-fn drill(passphrase: &str, noted: &str, file: &str) -> Result<(), Box<dyn std::error::Error>> {
-    let papers = std::fs::read_to_string(file)?;
+fn drill(options: &RecoverOptions<'_>, file: &str) -> Result<(), Box<dyn Error>> {
+    let papers = fs::read(file)?;
     let quorums = shamir::quorums(&papers)?;
-    std::thread::spawn(|| STOPPED.store(io::stdin().read_line(&mut String::new()).is_ok_and(|read| read > 0), Ordering::Relaxed));
-    for (number, outcome) in (1..).zip(Drill::new(&papers, &RecoverOptions::new().passphrase(passphrase).expected(noted))) {
+    // The thread ends if a line comes. It waits for ever if the input ends.
+    let enter = thread::spawn(|| {
+        io::stdin().lines().next().unwrap_or_else(|| {
+            loop {
+                thread::park()
+            }
+        })
+    });
+    for (number, outcome) in (1..).zip(Drill::new(&papers, options)) {
         let outcome = outcome?;
         let found = if outcome.found == Found::AsExpected { "as expected" } else { "NOT as expected" };
         println!("{number} of {quorums}: {} {found}", outcome.names);
-        if STOPPED.load(Ordering::Relaxed) {
+        if enter.is_finished() {
             println!("stopped after {}", outcome.names);
-            return Ok(());
+            break;
         }
     }
     Ok(())
 }
 
-fn repair(line: &str) -> Result<(), Box<dyn std::error::Error>> {
-    print!("{}", shamir::repair(line)?.as_str());
-    Ok(())
-}
-
-fn run(words: &[&str]) -> Result<(), Box<dyn std::error::Error>> {
+fn run(words: &[&str]) -> Result<(), Box<dyn Error>> {
     let usage = "give make PLAN, recover FINGERPRINT, drill FINGERPRINT FILE or repair, and a line of input";
     let line = || io::stdin().lines().next().unwrap_or(Err(io::Error::other(usage)));
     match *words {
-        ["make", plan] => make(&line()?, plan),
-        ["recover", noted] => recover(&line()?, noted),
-        ["drill", noted, file] => drill(&line()?, noted, file),
-        ["repair"] => repair(&line()?),
-        _ => Err(usage.into()),
+        ["make", plan] => make(&line()?, plan)?,
+        ["recover", noted] => recover(&RecoverOptions::new().passphrase(&line()?).expected(noted))?,
+        ["drill", noted, file] => drill(&RecoverOptions::new().passphrase(&line()?).expected(noted), file)?,
+        ["repair"] => print!("{}", shamir::repair(line()?)?.as_str()),
+        _ => return Err(usage.into()),
     }
+    Ok(())
 }
 
 fn main() -> Result<(), String> {
     let words: Vec<String> = std::env::args().skip(1).collect();
-    let done = run(&words.iter().map(String::as_str).collect::<Vec<_>>());
-    done.map_err(|error| error.downcast_ref().map_or_else(|| error.to_string(), |refused| told(refused, "")))
+    run(&words.iter().map(String::as_str).collect::<Vec<_>>()).map_err(|error| error.to_string())
 }

@@ -32,6 +32,14 @@ pub(crate) struct Fields {
     pub(crate) member_threshold: u8,
 }
 
+/// `shamir_judgement`.
+#[repr(C)]
+#[derive(Clone, Copy, Debug, Default)]
+pub(crate) struct Judged {
+    pub(crate) share: Fields,
+    pub(crate) again: u8,
+}
+
 /// `shamir_parameters`.
 #[repr(C)]
 #[derive(Clone, Copy, Debug, Default)]
@@ -88,6 +96,15 @@ unsafe extern "C" {
         secret_bytes: usize,
     ) -> Answer;
     fn shamir_status(lines: *const c_char, lines_bytes: usize, text: *mut c_char, text_bytes: usize) -> Answer;
+    fn shamir_judge(
+        lines: *const c_char,
+        lines_bytes: usize,
+        line: *const c_char,
+        line_bytes: usize,
+        judgement: *mut Judged,
+        text: *mut c_char,
+        text_bytes: usize,
+    ) -> Answer;
     fn shamir_quorums(lines: *const c_char, lines_bytes: usize) -> Answer;
     fn shamir_reissue(
         plan: *const c_char,
@@ -269,6 +286,12 @@ pub(crate) fn status(lines: &[u8], room: &mut [u8]) -> Answer {
     let ((lines, lines_bytes), (room, room_bytes)) = (of(lines), room_of(room));
     // SAFETY: "An output buffer or an output struct must not overlap any other argument."
     unsafe { shamir_status(lines, lines_bytes, room, room_bytes) }
+}
+
+pub(crate) fn judge(lines: &[u8], line: &[u8], judged: &mut Judged, room: &mut [u8]) -> Answer {
+    let ((lines, lines_bytes), (line, line_bytes), (room, room_bytes)) = (of(lines), of(line), room_of(room));
+    // SAFETY: "An output buffer or an output struct must not overlap any other argument."
+    unsafe { shamir_judge(lines, lines_bytes, line, line_bytes, judged, room, room_bytes) }
 }
 
 pub(crate) fn quorums(lines: &[u8]) -> Answer {

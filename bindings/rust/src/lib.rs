@@ -28,7 +28,7 @@
 //!
 //! A group is complete if the number of its members at hand is at least its member threshold. Mnemonics are enough if the number of
 //! complete groups is at least the group threshold. A quorum is a minimal set of mnemonics that is enough. A drill (`Drill`) tries
-//! every quorum.
+//! every quorum. `Papers` takes mnemonics as they come, and keeps those of each backup apart.
 //!
 //! A mnemonic has a value. The values of the members of a group combine to a group share, and the group shares combine to the
 //! encrypted secret. A digest is four bytes by which the library usually detects values that don't belong together.
@@ -40,7 +40,7 @@
 //! # Without an allocator
 //!
 //! The crate uses neither `std` nor another crate. Without the feature `alloc`, which is on by default, it uses no allocator
-//! of Rust either. Then there are [`parse`], [`recover()`], [`encrypted()`], [`decrypt`], [`status()`], [`quorums()`],
+//! of Rust either. Then there are [`parse`], [`judge()`], [`recover()`], [`encrypted()`], [`decrypt`], [`status()`], [`quorums()`],
 //! [`fingerprint`], [`version()`], and the calls that write into the caller's room: [`create_into`], [`reissue_into`],
 //! [`resplit_into`], [`repair_into`] and [`words_into`].
 //!
@@ -71,9 +71,12 @@ mod drill;
 mod encrypted;
 mod error;
 mod ffi;
+mod judge;
 #[cfg(feature = "alloc")]
 mod mnemonics;
 mod name;
+#[cfg(feature = "alloc")]
+mod papers;
 mod plan;
 mod quorums;
 mod recover;
@@ -102,9 +105,12 @@ pub use details::{Counts, Mismatch};
 pub use drill::{Drill, Found, Names, Outcome};
 pub use encrypted::{DecryptOptions, EncryptedSecret, decrypt, encrypted};
 pub use error::Error;
+pub use judge::{Judgement, judge};
 #[cfg(feature = "alloc")]
 pub use mnemonics::Mnemonics;
 pub use name::Name;
+#[cfg(feature = "alloc")]
+pub use papers::Papers;
 pub use plan::Plan;
 #[cfg(feature = "alloc")]
 pub use plan::PlanBuilder;
@@ -120,7 +126,7 @@ pub use resplit::resplit_into;
 #[cfg(feature = "alloc")]
 pub use resplit::{resplit, resplit_with};
 pub use secret::{Fingerprint, SECRET_BYTES_MAX, SECRET_BYTES_MIN, Secret, fingerprint};
-pub use share::{Share, parse};
+pub use share::{Share, ShareFields, parse};
 pub use status::{GroupStatus, Status, status};
 pub use version::{Version, version};
 #[cfg(feature = "alloc")]

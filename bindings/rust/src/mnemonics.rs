@@ -80,6 +80,11 @@ impl Mnemonics {
         text_of(self.text.bytes())
     }
 
+    /// Adds other mnemonics.
+    pub(crate) fn push(&mut self, others: &Mnemonics) {
+        self.text.push(others.text.bytes());
+    }
+
     /// Gives the mnemonics that a call writes into a room of this length.
     pub(crate) fn written_by(len: usize, call: impl FnOnce(&mut [u8]) -> Answer) -> Result<Mnemonics, Error> {
         Ok(Mnemonics { text: Room::written_by(len, call)? })

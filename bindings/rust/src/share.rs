@@ -46,6 +46,68 @@ pub struct Share {
     pub value: Secret,
 }
 
+/// The fields of a mnemonic, without its value.
+///
+/// ```
+/// use shamir::{ShareFields, judge};
+///
+/// # fn main() -> Result<(), shamir::Error> {
+/// let line = "shadow pistol academic always adequate wildlife fancy gross oasis cylinder mustang wrist rescue view short owner flip making coding armed";
+/// let share: ShareFields = judge("", line)?.share;
+/// assert_eq!((share.id, share.exponent, share.member_threshold), (25653, 2, 2));
+/// # Ok(())
+/// # }
+/// ```
+#[derive(Clone, Copy, Debug, PartialEq, Eq, Hash)]
+#[non_exhaustive]
+pub struct ShareFields {
+    /// The identifier of the backup, 0 to 32767.
+    pub id: u16,
+    /// The extendable flag.
+    pub extendable: bool,
+    /// The iteration exponent, 0 to 15.
+    pub exponent: u8,
+    /// The group, 0 to 15.
+    pub group_index: u8,
+    /// The group threshold, 1 to the group count.
+    pub group_threshold: u8,
+    /// The group count, 1 to 16.
+    pub group_count: u8,
+    /// The member of the group, 0 to 15.
+    pub member_index: u8,
+    /// The member threshold, 1 to 16.
+    pub member_threshold: u8,
+}
+
+impl ShareFields {
+    pub(crate) fn of(fields: &Fields) -> ShareFields {
+        ShareFields {
+            id: fields.id,
+            extendable: fields.extendable != 0,
+            exponent: fields.exponent,
+            group_index: fields.group_index,
+            group_threshold: fields.group_threshold,
+            group_count: fields.group_count,
+            member_index: fields.member_index,
+            member_threshold: fields.member_threshold,
+        }
+    }
+
+    /// Gives the name of the mnemonic.
+    ///
+    /// ```
+    /// # fn main() -> Result<(), shamir::Error> {
+    /// let line = "shadow pistol academic always adequate wildlife fancy gross oasis cylinder mustang wrist rescue view short owner flip making coding armed";
+    /// assert_eq!(shamir::judge("", line)?.share.name().to_string(), "0.2");
+    /// # Ok(())
+    /// # }
+    /// ```
+    #[must_use]
+    pub fn name(&self) -> Name {
+        Name { group: self.group_index, member: self.member_index }
+    }
+}
+
 impl Share {
     /// Gives the name of the mnemonic.
     ///
@@ -59,6 +121,14 @@ impl Share {
     #[must_use]
     pub fn name(&self) -> Name {
         Name { group: self.group_index, member: self.member_index }
+    }
+}
+
+impl From<&Share> for ShareFields {
+    fn from(share: &Share) -> ShareFields {
+        let Share { id, extendable, exponent, group_index, group_threshold, group_count, member_index, member_threshold, .. } =
+            *share;
+        ShareFields { id, extendable, exponent, group_index, group_threshold, group_count, member_index, member_threshold }
     }
 }
 
@@ -86,15 +156,7 @@ impl FromStr for Share {
 pub fn parse(mnemonic: impl AsRef<[u8]>) -> Result<Share, Error> {
     let mut fields = Fields::default();
     let value = Secret::written_by(|room| ffi::parse(mnemonic.as_ref(), &mut fields, room))?;
-    Ok(Share {
-        id: fields.id,
-        extendable: fields.extendable != 0,
-        exponent: fields.exponent,
-        group_index: fields.group_index,
-        group_threshold: fields.group_threshold,
-        group_count: fields.group_count,
-        member_index: fields.member_index,
-        member_threshold: fields.member_threshold,
-        value,
-    })
+    let ShareFields { id, extendable, exponent, group_index, group_threshold, group_count, member_index, member_threshold } =
+        ShareFields::of(&fields);
+    Ok(Share { id, extendable, exponent, group_index, group_threshold, group_count, member_index, member_threshold, value })
 }

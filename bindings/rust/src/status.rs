@@ -11,6 +11,9 @@ const GROUPS_MAX: usize = 16;
 /// The greatest length of a status of the library.
 const STATUS_BYTES_MAX: usize = 1638;
 
+/// A status as the library writes it.
+pub(crate) type StatusText = Text<STATUS_BYTES_MAX>;
+
 /// How many groups are complete, how many must be, and which members of each group are at hand.
 ///
 /// A group is complete if the number of its members at hand is at least its member threshold.
@@ -26,6 +29,8 @@ const STATUS_BYTES_MAX: usize = 1638;
 /// # Ok(())
 /// # }
 /// ```
+///
+/// `Display` writes what the command `status` prints, without the last line feed.
 #[derive(Clone, Copy, PartialEq, Eq, Hash)]
 #[non_exhaustive]
 pub struct Status {
@@ -52,6 +57,18 @@ impl Status {
         self.complete >= self.required
     }
 
+    /// Reads a status that the library wrote.
+    pub(crate) fn read(text: &StatusText) -> Status {
+        let mut rows = text.as_str().lines();
+        let [_, complete, _, required] = words_of(rows.next().unwrap_or_default());
+        let mut status = Status { complete: small(complete), required: small(required), groups: Default::default(), count: 0 };
+        for (row, group) in rows.zip(&mut status.groups) {
+            *group = group_status(row);
+            status.count += 1;
+        }
+        status
+    }
+
     /// Gives each group that has a member among the mnemonics, in ascending order.
     ///
     /// ```
@@ -67,6 +84,13 @@ impl Status {
     }
 }
 
+impl fmt::Display for Status {
+    fn fmt(&self, formatter: &mut fmt::Formatter<'_>) -> fmt::Result {
+        write!(formatter, "groups {} of {}", self.complete, self.required)?;
+        self.groups().iter().try_for_each(|group| write!(formatter, "\n{group}"))
+    }
+}
+
 impl fmt::Debug for Status {
     fn fmt(&self, formatter: &mut fmt::Formatter<'_>) -> fmt::Result {
         let mut shown = formatter.debug_struct("Status");
@@ -74,7 +98,7 @@ impl fmt::Debug for Status {
     }
 }
 
-/// A group that has members among the mnemonics.
+/// A group that has members among the mnemonics. `Display` writes its line of a status: `group 0 members 1 of 2 0.2`.
 ///
 /// ```
 /// # fn main() -> Result<(), shamir::Error> {
@@ -125,6 +149,13 @@ impl GroupStatus {
     }
 }
 
+impl fmt::Display for GroupStatus {
+    fn fmt(&self, formatter: &mut fmt::Formatter<'_>) -> fmt::Result {
+        write!(formatter, "group {} members {} of {}", self.group, self.members().count(), self.threshold)?;
+        self.names().enumerate().try_for_each(|(at, name)| write!(formatter, "{}{name}", if at == 0 { ' ' } else { '+' }))
+    }
+}
+
 impl fmt::Debug for GroupStatus {
     fn fmt(&self, formatter: &mut fmt::Formatter<'_>) -> fmt::Result {
         let mut shown = formatter.debug_struct("GroupStatus");
@@ -159,15 +190,7 @@ impl fmt::Debug for Members<'_> {
 /// # }
 /// ```
 pub fn status(lines: impl AsRef<[u8]>) -> Result<Status, Error> {
-    let text = Text::<STATUS_BYTES_MAX>::written_by(|room| ffi::status(lines.as_ref(), room))?;
-    let mut rows = text.as_str().lines();
-    let [_, complete, _, required] = words_of(rows.next().unwrap_or_default());
-    let mut status = Status { complete: small(complete), required: small(required), groups: Default::default(), count: 0 };
-    for (row, group) in rows.zip(&mut status.groups) {
-        *group = group_status(row);
-        status.count += 1;
-    }
-    Ok(status)
+    Ok(Status::read(&Text::written_by(|room| ffi::status(lines.as_ref(), room))?))
 }
 
 /// Reads a line `group G members N of T NAMES`.

@@ -92,8 +92,8 @@ mod in_heap {
     use super::{LOOKED_FOR, RANDOM, given, left_by};
     use given::{FIVE, ONE, TWO_RANDOM, bytes};
     use shamir::{
-        CreateOptions, DecryptOptions, Drill, Error, Mnemonics, RecoverOptions, Secret, create, create_with, decrypt, encrypted,
-        parse, recover, reissue, repair, resplit_with,
+        CreateOptions, DecryptOptions, Drill, Error, Mnemonics, Papers, RecoverOptions, Secret, create, create_with, decrypt,
+        encrypted, judge, parse, recover, reissue, repair, resplit_with,
     };
 
     fn trezor() -> RecoverOptions<'static> {
@@ -125,6 +125,19 @@ mod in_heap {
         assert_eq!(left_by(|| reissue(&"1of1".parse().unwrap(), "0.0", ONE).unwrap()), 0);
         let marks = ONE.replace("keyboard", "?");
         assert_eq!(left_by(|| repair(&marks).unwrap()), 0);
+    }
+
+    #[test]
+    fn papers_leave_nothing() {
+        let lines = FIVE.join("\n");
+        assert_eq!(left_by(|| judge(&lines, FIVE[0]).unwrap()), 0);
+        let kept = || {
+            let mut papers = Papers::new();
+            FIVE.iter().for_each(|paper| _ = papers.add(paper).unwrap());
+            papers
+        };
+        assert_eq!(left_by(kept), 0);
+        assert_eq!(left_by(|| kept().add(ONE)), 0);
     }
 
     #[test]

@@ -2,9 +2,9 @@
 mod given;
 
 use given::{EXTENDABLE, FIVE, FOURTH, ONE, ONE_SECRET, SPLIT_ANEW, TWO, TWO_RANDOM, TWO_SECRET, bytes};
-use shamir::{CreateOptions, DecryptOptions, Error, Plan, RecoverOptions, Secret, Share};
+use shamir::{CreateOptions, DecryptOptions, Error, Plan, RecoverOptions, Secret, Share, ShareFields};
 use shamir::{REPAIRED_BYTES_MAX, create_into, reissue_into, repair_into, resplit_into, words_into};
-use shamir::{decrypt, encrypted, fingerprint, parse, recover, status};
+use shamir::{decrypt, encrypted, fingerprint, judge, parse, recover, status};
 
 fn plan(text: &str) -> Plan {
     text.parse().unwrap()
@@ -70,8 +70,11 @@ fn an_extendable_backup_is_split_anew() {
 fn mnemonics_are_read() {
     let share: Share = ONE.parse().unwrap();
     assert_eq!((share.id, share.exponent, share.name().to_string()), (7945, 0, "0.0".into()));
+    let fields = ShareFields::from(&share);
     assert_eq!(parse(ONE), Ok(share));
     assert!(status(ONE).unwrap().is_enough());
+    let judgement = judge(FIVE.join("\n"), ONE).unwrap();
+    assert_eq!((judgement.share, judgement.again), (fields, false));
     assert_eq!(status(FIVE.join("\n")).unwrap().groups().len(), 3);
     // Another program computed this fingerprint.
     assert_eq!(fingerprint(&Secret::new(&bytes(ONE_SECRET)).unwrap()).to_string(), "df41d8fe");

@@ -12,11 +12,18 @@ mod examples;
 
 use crate::arrays::{OneFile, Sheet, Source};
 use crate::examples::{Example, RANDOM, example_of, run_of};
-use s39_cli::{Destination, Messages, program};
+use s39_cli::{Destination, Messages, Terminals, Unwatched, program};
 use std::alloc::Global;
 use std::io;
 use std::io::Read;
 use std::process::ExitCode;
+
+/// No device is a terminal.
+const NO_TERMINAL: Terminals = Terminals {
+    source: s39_cli::Source::Elsewhere,
+    destination: Destination::Elsewhere,
+    errors: Destination::Elsewhere,
+};
 
 /// How an example ended.
 #[derive(Clone, Copy, Debug, PartialEq, Eq)]
@@ -41,8 +48,8 @@ fn ending_of(alloc: Global, example: &Example) -> Ending {
         &mut input,
         &mut output,
         &mut Messages::new(&mut errors),
-        s39_cli::Source::Elsewhere,
-        Destination::Elsewhere,
+        &mut Unwatched,
+        NO_TERMINAL,
     )
     .status();
     let has_no_memory = errors.as_slice() == b"shamir: out of memory\n".as_slice()

@@ -3,6 +3,7 @@ mod Outputs
 mod OneAnswer
 mod OneSecret
 mod OneDecryption
+mod OneJudgement
 mod MostExponents
 mod Rooms
 mod WordLines

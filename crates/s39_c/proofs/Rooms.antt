@@ -48,7 +48,13 @@ use Rattle.s39_creating.specs.Lengths.{longest_backup}
 use Rattle.s39_reading.specs.Lengths.{longest_status}
 use Rattle.s39_creating.specs.Reissue.{IsReissueOutput}
 use Rattle.s39_creating.specs.Resplit.{IsResplitOutput}
-use Rattle.s39_reading.specs.Status.{IsStatusOutput}
+use Rattle.s39_reading.specs.Status.{IsStatusOf, IsStatusOutput}
+use Rattle.s39_words.specs.declared.ShareFields.{ShareFields}
+use Rattle.s39_set.specs.ShareSet.{IsShareSet}
+use Rattle.s39_input.specs.Judging.{judgement}
+use Rattle.s39_input.specs.declared.judging.Judged.{Judged}
+use Rattle.s39_c.specs.Judging.{GivesJudgement}
+use Rattle.s39_c.specs.declared.judging.ShamirJudgement.{ShamirJudgement}
 use Rattle.s39_c.specs.declared.answer.ShamirAnswer.{ShamirAnswer}
 use Rattle.s39_c.specs.Answers.{Gives, GivesOutputAs, created, done, too_short, refusal, refused}
 use Rattle.s39_c.specs.Creating.{Wanted, GivesBackup}
@@ -203,6 +209,18 @@ module _ (short : (input : Input) (text : List ℕ) (status : Status) → IsStat
   status_fits (inl (fault, output, same, says)) = absurd (no_fault needed fault says)
   status_fits (inr (written, output, inl (fits, is, says))) = let code : 0 ≡ 1 = no_other needed _ says in absurd (omega (arith, code))
   status_fits (inr (written, output, inr (less, same, says))) = omega (arith, less, short (whole lines) written.0 written.1 output)
+
+module _ (short : (set : List ShareFields) → IsShareSet set → (text : List ℕ) (status : Status) → IsStatusOf set text (Ok status)
+    → length text ≤ longest_status)
+    (are : (lines line : List ℕ) (judged : Judged) → judgement lines line ≡ Ok judged → IsShareSet judged.set)
+    (lines line : List ℕ) (before after : ShamirJudgement) (old new : List ℕ) (needed : ℕ) where
+  pub judgement_fits : GivesJudgement lines line before after old new (too_short needed) → length old < longest_status
+  judgement_fits (inl (fault, found, same, says)) = absurd (no_fault needed fault says)
+  judgement_fits (inr (judged, found, inl (fault, output, same, says))) = absurd (no_fault needed fault says)
+  judgement_fits (inr (judged, found, inr (written, output, inl (fits, is, says)))) =
+      let code : 0 ≡ 1 = no_other needed _ says in absurd (omega (arith, code))
+  judgement_fits (inr (judged, found, inr (written, output, inr (less, same, says)))) =
+      omega (arith, less, short judged.set (are lines line judged found.0) written.0 written.1 output)
 
 module _ (short : (group_threshold : ℕ) (groups : List Members) (names : Names) (input : Input) (text : List ℕ) → AreNames names
     → IsReissueOutput group_threshold groups names input text (Ok tt) → length text ≤ longest_backup)

@@ -10,6 +10,7 @@ pub mod Reissuing
 pub mod Resplitting
 pub mod Repairing
 pub mod Status
+pub mod Judging
 pub mod Counting
 pub mod Telling
 pub mod Version

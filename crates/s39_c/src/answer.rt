@@ -39,10 +39,10 @@ pub struct ShamirAnswer {
     /// The first detail of a refusal: a position, a number or a group. In a digest mismatch, 16 stands for the digest
     /// of the group shares. After success, `shamir_random_needed` gives its result here, `shamir_create`, `shamir_resplit` and
     /// `shamir_repair` the number of mnemonics, `shamir_drill` the number of listed quorums, `shamir_quorums` the number of all,
-    /// and `shamir_status` the number of complete groups. Otherwise it is 0.
+    /// and `shamir_status` and `shamir_judge` the number of complete groups. Otherwise it is 0.
     pub first: u64,
     /// The second detail of a refusal. After success, `shamir_drill` gives the offset of the last line in its output
-    /// here, in bytes, and `shamir_status` the group threshold. It is 0 otherwise.
+    /// here, in bytes, and `shamir_status` and `shamir_judge` the group threshold. It is 0 otherwise.
     pub second: u64,
     /// The number of bytes that the call wrote. It is 0 on refusal.
     pub written: u64,

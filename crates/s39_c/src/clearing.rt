@@ -15,6 +15,8 @@ pub(crate) const CREATE: usize = 96 * KIB;
 
 pub(crate) const STATUS: usize = 224 * KIB;
 
+pub(crate) const JUDGE: usize = 224 * KIB;
+
 pub(crate) const QUORUMS: usize = 224 * KIB;
 
 pub(crate) const ENCRYPTED: usize = 256 * KIB;

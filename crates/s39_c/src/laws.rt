@@ -17,6 +17,7 @@ ghost use Rattle.s39_creating.specs.Resplit.{IsResplitOutput};
 ghost use Rattle.s39_reading.specs.Status.{IsStatusOutput};
 ghost use Rattle.s39_c.specs.declared.answer.ShamirAnswer.{ShamirAnswer as Answer};
 ghost use Rattle.s39_c.specs.declared.encrypted.ShamirParameters.{ShamirParameters as Parameters};
+ghost use Rattle.s39_c.specs.declared.judging.ShamirJudgement.{ShamirJudgement as Judgement};
 ghost use Rattle.s39_c.specs.declared.parsing.ShamirShare.{ShamirShare as Header};
 ghost use Rattle.s39_c.specs.Answers.{number};
 ghost use Rattle.s39_c.specs.Counting.{counted_answer};
@@ -25,6 +26,7 @@ ghost use Rattle.s39_c.specs.Drilling.{GivesDrill, GivesListing};
 ghost use Rattle.s39_c.specs.Encrypted.{GivesDecrypted, GivesEncrypted};
 ghost use Rattle.s39_c.specs.Exponents.{GivesUpTo};
 ghost use Rattle.s39_c.specs.Fingerprinting.{GivesFingerprint};
+ghost use Rattle.s39_c.specs.Judging.{GivesJudgement};
 ghost use Rattle.s39_c.specs.Parsing.{GivesShare};
 ghost use Rattle.s39_c.specs.Recovering.{GivesExpectedSecret, GivesSecret};
 ghost use Rattle.s39_c.specs.Reissuing.{GivesReissued};
@@ -179,6 +181,17 @@ pub fn one_status()
         → GivesStatus (IsStatusOutput (whole lines)) old new answer
         → GivesStatus (IsStatusOutput (whole lines)) old other another
         → (new ≡ other) × (answer ≡ another) }
+{}
+
+/// Lines and a mnemonic determine the judgement, the buffer of the text and the answer of `shamir_judge`, and there are such ones.
+pub fn one_judgement()
+    ensures once { (lines line : List ℕ) (judgement first second : Judgement) (old new other : List ℕ)
+        (answer another : Answer) → GivesJudgement lines line judgement first old new answer
+        → GivesJudgement lines line judgement second old other another
+        → (first ≡ second) × (new ≡ other) × (answer ≡ another) }
+    ensures exists { (lines line : List ℕ) (judgement : Judgement) (old : List ℕ)
+        → (after : Judgement) × (new : List ℕ) × (answer : Answer)
+        × GivesJudgement lines line judgement after old new answer }
 {}
 
 /// A line determines the buffer of mnemonics and the answer of `shamir_repair`.

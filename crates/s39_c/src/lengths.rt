@@ -19,6 +19,8 @@ ghost use Rattle.s39_c.specs.Creating.{Wanted, GivesBackup};
 ghost use Rattle.s39_c.specs.Drilling.{GivesDrill, GivesListing};
 ghost use Rattle.s39_c.specs.Exponents.{GivesUpTo};
 ghost use Rattle.s39_c.specs.Fingerprinting.{GivesFingerprint};
+ghost use Rattle.s39_c.specs.declared.judging.ShamirJudgement.{ShamirJudgement as Judgement};
+ghost use Rattle.s39_c.specs.Judging.{GivesJudgement};
 ghost use Rattle.s39_c.specs.Reissuing.{GivesReissued};
 ghost use Rattle.s39_c.specs.Resplitting.{GivesSplit};
 ghost use Rattle.s39_c.specs.Repairing.{longest_repaired, GivesRepaired};
@@ -28,8 +30,8 @@ ghost use Rattle.s39_c.specs.Words.{longest_words, words_text, GivesWords};
 
 use s39_creating::laws::{backups_are_short, reissues_are_short, resplits_are_short};
 use s39_drilling::laws::first_lines_are_short;
-use s39_input::laws::names_are_short;
-use s39_reading::laws::statuses_are_short;
+use s39_input::laws::{judged_sets_have_their_shares, names_are_short};
+use s39_reading::laws::{statuses_are_short, statuses_of_sets_are_short};
 use s39_words::laws::printed_forms;
 
 /// The maximum length of a list of names, such as the names of a quorum.
@@ -111,6 +113,16 @@ pub fn statuses_fit()
         → length old < STATUS_BYTES_MAX }
 {
     statuses_are_short();
+}
+
+/// If a judgement refuses a buffer as too short, the buffer is shorter than `STATUS_BYTES_MAX`.
+pub fn judgements_fit()
+    ensures { (lines line : List ℕ) (judgement after : Judgement) (old new : List ℕ) (needed : ℕ)
+        → GivesJudgement lines line judgement after old new (too_short needed)
+        → length old < STATUS_BYTES_MAX }
+{
+    judged_sets_have_their_shares();
+    statuses_of_sets_are_short();
 }
 
 /// If a reissue refuses a buffer as too short, the buffer is shorter than `MNEMONICS_BYTES_MAX`.

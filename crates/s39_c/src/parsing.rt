@@ -71,7 +71,7 @@ fn parse_answer(line: &[u8], share: &mut ShamirShare, value: &mut [u8]) -> Shami
 }
 
 /// The fields of a share, except its value.
-fn header_of(fields: &ShareFields) -> ShamirShare
+pub(crate) fn header_of(fields: &ShareFields) -> ShamirShare
     ensures { result ≡ header_of fields.now }
 {
     ShamirShare {

@@ -42,13 +42,6 @@ some_drawn (Some bytes) = (take most_drawn bytes, refl)
 
 module _ {R W : Type 0} (told : Told) (remaining : R → Option (List ℕ)) (contents : W → Option (List ℕ)) (job : Job) (secret passphrase : Text) (reader : R)
     (writer : W) where
-  -- a job that is done with this
-  pub does_with : (given : Text) (ended : Ended R W) → IsDoneWith told job secret given
-      → OnEnd ended (DoesJob remaining contents job given passphrase reader writer)
-      → OnEnd ended (DoesDrawn told remaining contents job secret passphrase reader writer)
-  does_with given NoMemory is does = tt
-  does_with given (With status read_to written_to) is does = inr (given, is, does)
-
   module _ (plan file : Bor Text) (is : job ≡ Resplit plan file) where
     -- a split anew whose plan is none
     pub bad_plan : (error : PlanError) (ended : Ended R W) → IsPlanReading plan.now (Err error) → OnEnd ended (EndsAtOnce 1 reader writer)

@@ -12,6 +12,9 @@ pub mod Repairs
 pub mod Said
 pub mod SaidByRuns
 pub mod SaidOfWords
+pub mod SeenByRuns
+pub mod SeenOfWords
+pub mod HowFar
 pub mod SameValues
 pub mod SomeOutcomes
 pub mod Unreadiness

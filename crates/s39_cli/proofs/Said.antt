@@ -39,7 +39,7 @@ use Rattle.s39_cli.proofs.Formless.{formed_by_cursor, formed_by_fingerprint, for
 -- ---- exit statuses
 
 -- no refusal ends with exit status 0
-refusal_some : (refusal : Refusal) → status_of_refusal refusal ≡ 0 → ⊥
+pub refusal_some : (refusal : Refusal) → status_of_refusal refusal ≡ 0 → ⊥
 refusal_some (Device failure) none = omega (arith, none)
 refusal_some _ none = omega (arith, none)
 

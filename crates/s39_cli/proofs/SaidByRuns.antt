@@ -25,12 +25,12 @@ line_if_nothing true = refl
 line_if_nothing false = refl
 
 -- a reader has some input
-some_input : (told : Option (List ℕ)) → (input : Input) × IsAllOf told input
+pub some_input : (told : Option (List ℕ)) → (input : Input) × IsAllOf told input
 some_input None = (whole [], ([], tt, refl))
 some_input (Some bytes) = (whole bytes, (bytes, refl, refl))
 
 -- a set is what its input is read as
-read_of_checked : (passphrase : List ℕ) (input : Input) (set : List ShareFields) → IsCheckedSet passphrase input (Ok set) → read_as input ≡ Ok set
+pub read_of_checked : (passphrase : List ℕ) (input : Input) (set : List ShareFields) → IsCheckedSet passphrase input (Ok set) → read_as input ≡ Ok set
 read_of_checked passphrase input set (refuses bad first is) = absurd (cc)
 read_of_checked passphrase input set (gives _ printable (refuses stop read is)) = absurd (cc)
 read_of_checked passphrase input set (gives _ printable (gives other read is)) = let same : other ≡ set = cc in read ∙ ap Ok same

@@ -9,10 +9,9 @@ use Rattle.s39_command.specs.declared.command.NoJob.TheVariants.{Help, Refused, 
 use Rattle.s39_command.specs.Command.{AnswersWords, GivesCall, shamir_app}
 use Rattle.s39_command.proofs.Jobs.{asks_none}
 use Rattle.s39_cli.specs.declared.messages.Messages.{Messages}
-use Rattle.s39_cli.specs.declared.runner.Destination.{Destination}
 use Rattle.s39_cli.specs.declared.runner.Ended.{Ended}
 use Rattle.s39_cli.specs.declared.runner.Ended.TheVariants.{With, NoMemory}
-use Rattle.s39_cli.specs.declared.runner.Source.{Source}
+use Rattle.s39_cli.specs.declared.runner.Terminals.{Terminals}
 use Rattle.s39_cli.specs.Ending.{IsTyped, OnEnd}
 use Rattle.s39_cli.specs.Said.{IsSaid, IsSaidAs, IsSaidOfCall, IsSaidOfJob, IsSaidWithoutJob}
 use Rattle.s39_cli.specs.Said.{IsWithin, OnStatus, Says, memory_line, plan_form_line}
@@ -22,11 +21,11 @@ use Rattle.s39_cli.proofs.Said.{says_both, typed_mnemonics, typed_passphrase}
 
 -- ---- the program
 
-module _ {R E : Type 0} (told : Told) (remaining : R → Option (List ℕ)) (contents : E → Option (List ℕ)) (source : Source) (destination : Destination)
+module _ {R E : Type 0} (told : Told) (remaining : R → Option (List ℕ)) (contents : E → Option (List ℕ)) (terminals : Terminals)
     (words : List Text) (reader : R) (old new : Messages E) where
   by_call : (call : Call) → GivesCall words call
-      → fault_of shamir_app words ≡ [] → (status : ℕ) → IsSaidOfCall told remaining contents source destination call reader old new status
-      → IsSaidAs told remaining contents source destination words reader old new status
+      → fault_of shamir_app words ≡ [] → (status : ℕ) → IsSaidOfCall told remaining contents terminals call reader old new status
+      → IsSaidAs told remaining contents terminals words reader old new status
   by_call call found faultless status says = record {
     asked = λ asks. absurd (asks_none words faultless asks);
     taken = λ _. inr (call, found, says);
@@ -35,17 +34,17 @@ module _ {R E : Type 0} (told : Told) (remaining : R → Option (List ℕ)) (con
   module _ {W : Type 0} where
     -- for want of memory, before anything else is said
     only_memory : (ended : Ended R W) → ended ≡ NoMemory → Says contents old new memory_line
-        → IsSaid told remaining contents source destination words reader old new ended
+        → IsSaid told remaining contents terminals words reader old new ended
     only_memory ended none says =
         let never : (may : Bool) → IsWithin false may = λ may comes. absurd (true≢false (sym comes)) in
-        subst (IsSaid told remaining contents source destination words reader old new) (sym none)
-        (false, false, never (is_terminal source), never (is_terminal source), says)
+        subst (IsSaid told remaining contents terminals words reader old new) (sym none)
+        (false, false, never (is_terminal terminals.source), never (is_terminal terminals.source), says)
 
     -- words that give no job
     pub said_without_job : (no_job : NoJob) (ended : Ended R W) → AnswersWords no_job words
         → (takes shamir_app words ≡ true → (no_job ≡ Memory) ⊎ ((bad : BadValues) × (no_job ≡ Values bad)))
-        → IsSaidWithoutJob contents (is_attended source destination) no_job old new ended
-        → IsSaid told remaining contents source destination words reader old new ended
+        → IsSaidWithoutJob contents (is_attended terminals) no_job old new ended
+        → IsSaid told remaining contents terminals words reader old new ended
     said_without_job Memory ended answers wanting (none, says) = only_memory ended none says
     said_without_job (Help text) NoMemory answers wanting says = absurd says
     said_without_job (Refused text) NoMemory answers wanting says = absurd says
@@ -64,10 +63,10 @@ module _ {R E : Type 0} (told : Told) (remaining : R → Option (List ℕ)) (con
     }
 
     module _ (call : Call) (found : GivesCall words call) (faultless : fault_of shamir_app words ≡ []) where
-      pub said_typed : (ended : Ended R W) (read_to : R) (writer : W) → IsTyped source call.job → ended ≡ With 2 read_to writer
-          → Says contents old new typed_line → IsSaid told remaining contents source destination words reader old new ended
+      pub said_typed : (ended : Ended R W) (read_to : R) (writer : W) → IsTyped terminals.source call.job → ended ≡ With 2 read_to writer
+          → Says contents old new typed_line → IsSaid told remaining contents terminals words reader old new ended
       said_typed ended read_to writer typed same says =
-          subst (IsSaid told remaining contents source destination words reader old new) (sym same) (by_call call found faultless 2 (record {
+          subst (IsSaid told remaining contents terminals words reader old new) (sym same) (by_call call found faultless 2 (record {
             done = λ none. absurd (omega (arith, none));
             typed = λ _. says;
             refused = λ one. absurd (omega (arith, one));
@@ -75,10 +74,10 @@ module _ {R E : Type 0} (told : Told) (remaining : R → Option (List ℕ)) (con
             wrong = λ _. inl typed;
           }))
 
-      pub said_unread : (shown : Bool) (mid : Messages E) (name : Text) (ended : Ended R W) → (IsTyped source call.job → ⊥)
-          → OnStatus ended (λ status. 2 ≤ status) → shown ≡ types_passphrase source call.files.passphrase → IsNamedIn call.files name
+      pub said_unread : (shown : Bool) (mid : Messages E) (name : Text) (ended : Ended R W) → (IsTyped terminals.source call.job → ⊥)
+          → OnStatus ended (λ status. 2 ≤ status) → shown ≡ types_passphrase terminals.source call.files.passphrase → IsNamedIn call.files name
           → Says contents old mid (line_if shown shown_line) → OnEnd ended (λ status read_to written_to. status ≡ 2 → Says contents mid new (long_line name))
-          → IsSaid told remaining contents source destination words reader old new ended
+          → IsSaid told remaining contents terminals words reader old new ended
       said_unread shown mid name NoMemory untyped other shown_is named first says = absurd other
       said_unread shown mid name (With status read_to written_to) untyped other shown_is named first says =
           by_call call found faultless status (record {
@@ -95,17 +94,17 @@ module _ {R E : Type 0} (told : Told) (remaining : R → Option (List ℕ)) (con
           })
 
       pub said_of_job : (attended shown types tells : Bool) (secret passphrase : Option (List ℕ)) (behind : R) (mid : Messages E) (ended : Ended R W)
-          → (IsTyped source call.job → ⊥) → TakesValues told remaining call.files secret passphrase reader behind
-          → attended ≡ is_attended source destination → shown ≡ types_passphrase source call.files.passphrase → types ≡ types_mnemonics source call.job
-          → tells ≡ tells_of_none source destination call
+          → (IsTyped terminals.source call.job → ⊥) → TakesValues told remaining call.files secret passphrase reader behind
+          → attended ≡ is_attended terminals → shown ≡ types_passphrase terminals.source call.files.passphrase → types ≡ types_mnemonics terminals.source call.job
+          → tells ≡ tells_of_none terminals call
           → Says contents old mid (line_if shown shown_line) → IsSaidOfJob remaining contents call.job attended types tells behind mid new ended
-          → IsSaid told remaining contents source destination words reader old new ended
+          → IsSaid told remaining contents terminals words reader old new ended
       said_of_job attended shown types tells secret passphrase behind mid NoMemory untyped takes attended_is shown_is types_is tells_is first
           (begun, within, says) = (
             shown,
             begun,
-            (λ comes. typed_passphrase source call.files.passphrase (sym shown_is ∙ comes)),
-            (λ comes. typed_mnemonics source call.job (sym types_is ∙ within comes)),
+            (λ comes. typed_passphrase terminals.source call.files.passphrase (sym shown_is ∙ comes)),
+            (λ comes. typed_mnemonics terminals.source call.job (sym types_is ∙ within comes)),
             says_both contents old mid new (line_if shown shown_line) (line_if begun typing_line ++ memory_line) first says,
           )
       said_of_job attended shown types tells secret passphrase behind mid (With status read_to written_to) untyped takes attended_is shown_is types_is tells_is
@@ -114,12 +113,12 @@ module _ {R E : Type 0} (told : Told) (remaining : R → Option (List ℕ)) (con
                 let (input, all, is) = says.done none in (
                   input,
                   (secret, passphrase, behind, takes, all),
-                  subst (λ (b : Bool). Says contents old new (line_if b shown_line ++ (line_if (types_mnemonics source call.job) typing_line
-                      ++ late input (is_attended source destination) (tells_of_none source destination call)))) shown_is
+                  subst (λ (b : Bool). Says contents old new (line_if b shown_line ++ (line_if (types_mnemonics terminals.source call.job) typing_line
+                      ++ late input (is_attended terminals) (tells_of_none terminals call)))) shown_is
                       (subst (λ (b : Bool). Says contents old new (line_if shown shown_line ++ (line_if b typing_line
-                      ++ late input (is_attended source destination) (tells_of_none source destination call)))) types_is
+                      ++ late input (is_attended terminals) (tells_of_none terminals call)))) types_is
                       (subst (λ (b : Bool). Says contents old new (line_if shown shown_line ++ (line_if types typing_line
-                      ++ late input (is_attended source destination) b))) tells_is
+                      ++ late input (is_attended terminals) b))) tells_is
                       (subst (λ (b : Bool). Says contents old new (line_if shown shown_line ++ (line_if types typing_line ++ late input b tells))) attended_is
                       (says_both contents old mid new (line_if shown shown_line) (line_if types typing_line ++ late input attended tells) first is)))),
                 );
@@ -132,7 +131,7 @@ module _ {R E : Type 0} (told : Told) (remaining : R → Option (List ℕ)) (con
                   ⊎_elim (λ short. inl short) (λ lines. inr (
                     lines.0,
                     (secret, passphrase, behind, takes, lines.1),
-                    lines.2 ∙ ap (λ (b : Bool). late lines.0 b tells) attended_is ∙ ap (λ (b : Bool). late lines.0 (is_attended source destination) b) tells_is,
+                    lines.2 ∙ ap (λ (b : Bool). late lines.0 b tells) attended_is ∙ ap (λ (b : Bool). late lines.0 (is_attended terminals) b) tells_is,
                   )) r.3,
                   r.4,
                   subst (λ (b : Bool). Says contents old new (line_if b shown_line ++ (line_if r.0 typing_line ++ r.1))) shown_is
@@ -142,7 +141,7 @@ module _ {R E : Type 0} (told : Told) (remaining : R → Option (List ℕ)) (con
                 let r = says.formless one formless in (
                   r.0,
                   r.1,
-                  subst (λ (b : Bool). Says contents old new (line_if b shown_line ++ (r.0 ++ line_if (is_attended source destination) plan_form_line)))
+                  subst (λ (b : Bool). Says contents old new (line_if b shown_line ++ (r.0 ++ line_if (is_attended terminals) plan_form_line)))
                       shown_is (subst (λ (b : Bool). Says contents old new (line_if shown shown_line ++ (r.0 ++ line_if b plan_form_line))) attended_is
                       (says_both contents old mid new (line_if shown shown_line) (r.0 ++ line_if attended plan_form_line) first r.2)),
                 );

@@ -2,6 +2,7 @@ pub mod Ending
 pub mod Headline
 pub mod Outcome
 pub mod Said
+pub mod Seen
 pub mod Terminal
 pub mod Unready
 pub mod Untouched

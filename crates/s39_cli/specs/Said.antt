@@ -1,7 +1,8 @@
 -- What the program says on standard error.
-use Rattle.std.specs.Prelude.{◌≡◌, ◌≢◌, ◌⊎◌, ◌≤◌, ◌++◌, ◌-◌, ◌/◌, ◌^◌, ℕ, Bool, IsFalse, true, false, List, [], Option, Some, Result, Ok, Err, is_some, is_none, bytes_eq, codes}
+use Rattle.std.specs.Prelude.{◌≡◌, ◌≢◌, ◌⊎◌, ◌≤◌, ◌++◌, ◌-◌, ◌/◌, ◌%◌, ◌^◌, ◌==◌, ◌&&◌, ℕ, zero, suc, Bool, IsFalse, true, false, List, [], Option, Some, Result, Ok, Err, is_some, is_none, bytes_eq, codes}
 use Rattle.std.specs.Prelude.{if◌then◌else◌, length, min, nat_le, nat_lt, string_bytes}
 use Rattle.std.specs.Borrow.{Bor}
+use Rattle.std.specs.Int.{is_power_of_two}
 use Rattle.std.specs.Fmt.{decimal}
 use Rattle.std.specs.Fmt.Cut.{cut_to}
 use Rattle.std.specs.Io.KnownBytes.{Appends}
@@ -27,12 +28,14 @@ use Rattle.s39_input.specs.Accepted.{read_as}
 use Rattle.s39_input.specs.Input.{Input, whole}
 use Rattle.s39_reading.specs.Exponent.{exponent_of}
 use Rattle.s39_cli.specs.declared.messages.Messages.{Messages}
+use Rattle.s39_cli.specs.declared.progress.DrillProgress.{DrillProgress}
 use Rattle.s39_cli.specs.declared.runner.Destination.{Destination}
 use Rattle.s39_cli.specs.declared.runner.Destination.TheVariants as written_at
 use Rattle.s39_cli.specs.declared.runner.Ended.{Ended}
 use Rattle.s39_cli.specs.declared.runner.Ended.TheVariants.{With, NoMemory}
 use Rattle.s39_cli.specs.declared.runner.Source.{Source}
 use Rattle.s39_cli.specs.declared.runner.Source.TheVariants as read_at
+use Rattle.s39_cli.specs.declared.runner.Terminals.{Terminals}
 use Rattle.s39_cli.specs.declared.work.Unready.{Unready}
 use Rattle.s39_cli.specs.declared.work.Unready.TheVariants.{Secret, Plan, Memory}
 use Rattle.s39_cli.specs.declared.work.Work.{Work}
@@ -139,6 +142,10 @@ abbrev pub read_lines : Result (List ShareFields) (Stop LineRefusal) → Text
 read_lines (Ok set) = set_lines set
 read_lines (Err stop) = []
 
+-- said while quorums are listed: how many of them are
+abbrev pub listed_line : ℕ → Text
+listed_line count = codes "shamir: quorums listed: " ++ decimal count ++ codes "\n"
+
 -- ---- when they are said
 
 -- the passphrase is typed: the input is a terminal, and the passphrase is its first line
@@ -152,10 +159,23 @@ types_mnemonics read_at.Elsewhere job = false
 types_mnemonics read_at.Terminal (Create plan exponent extendable) = false
 types_mnemonics read_at.Terminal _ = true
 
--- a person types the input, or sees the output
-abbrev pub is_attended : Source → Destination → Bool
-is_attended read_at.Elsewhere written_at.Elsewhere = false
-is_attended _ _ = true
+-- one of the three is a terminal: where the input comes from, where the output goes, and where messages go
+abbrev pub has_terminal : Source → Destination → Destination → Bool
+has_terminal read_at.Elsewhere written_at.Elsewhere written_at.Elsewhere = false
+has_terminal _ _ _ = true
+
+-- a person looks on: types the input, or sees the output or the messages
+abbrev pub is_attended : Terminals → Bool
+is_attended terminals = has_terminal terminals.source terminals.destination terminals.errors
+
+-- messages go to a terminal, and the output doesn't
+abbrev pub is_only_told : Destination → Destination → Bool
+is_only_told written_at.Elsewhere written_at.Terminal = true
+is_only_told _ _ = false
+
+-- a person is told how many quorums a drill has listed
+abbrev pub shows_progress : Terminals → Bool
+shows_progress terminals = is_only_told terminals.destination terminals.errors
 
 -- the command recovers secrets, and no fingerprint is expected
 abbrev pub recovers_any : Job → Bool
@@ -168,8 +188,8 @@ abbrev pub is_bare : Call → Bool
 is_bare call = if is_some call.given.passphrase then false else if is_some call.files.passphrase then false else recovers_any call.job
 
 -- a person is told that no passphrase was used
-abbrev pub tells_of_none : Source → Destination → Call → Bool
-tells_of_none source destination call = if is_attended source destination then is_bare call else false
+abbrev pub tells_of_none : Terminals → Call → Bool
+tells_of_none terminals call = if is_attended terminals then is_bare call else false
 
 -- a person is told how to draw a secret: one looks on, and no secret is given
 abbrev pub tells_of_drawing : Bool → BadValues → Bool
@@ -190,10 +210,30 @@ abbrev pub late_lines : Job → Bool → Bool → Input → Text
 late_lines job attended tells_of_none input = line_if attended (input_lines job input) ++ line_if tells_of_none bare_line
 
 -- all that is said if the exit status is 0, for the input behind the values
-abbrev pub said_of : Source → Destination → Call → Input → Text
-said_of source destination call input = line_if (types_passphrase source call.files.passphrase) shown_line
-    ++ (line_if (types_mnemonics source call.job) typing_line
-    ++ late_lines call.job (is_attended source destination) (tells_of_none source destination call) input)
+abbrev pub said_of : Terminals → Call → Input → Text
+said_of terminals call input = line_if (types_passphrase terminals.source call.files.passphrase) shown_line
+    ++ (line_if (types_mnemonics terminals.source call.job) typing_line
+    ++ late_lines call.job (is_attended terminals) (tells_of_none terminals call) input)
+
+-- the greatest number of listed quorums that is told as a power of two
+abbrev pub most_doubled : ℕ
+most_doubled = 2 ^ 20
+
+-- it is told that so many quorums are listed: each power of two up to 2^20, and then each multiple of that
+abbrev pub is_told : ℕ → Bool
+is_told count = if nat_lt count most_doubled then is_power_of_two count else count % most_doubled == 0
+
+-- all that is said while so many quorums are listed
+abbrev pub listed_lines : ℕ → Text
+listed_lines zero = []
+listed_lines (suc n) = listed_lines n ++ line_if (is_told (suc n)) (listed_line (suc n))
+
+module _ {E : Type 0} (contents : E → Option (List ℕ)) where
+  -- once so many quorums are listed, this is said if it is wanted and such a number is told, and otherwise nothing
+  pub record TellsListed (count : ℕ) (old new : DrillProgress E) : Type 0 where
+    pub wanted : new.is_wanted ≡ old.is_wanted
+    pub said : Says contents old.messages new.messages (line_if (old.is_wanted && is_told count) (listed_line count))
+    pub silent : IsFalse (old.is_wanted && is_told count) → new ≡ old
 
 -- ---- what is said with each exit status
 
@@ -233,42 +273,42 @@ IsValueLine files text = (text ≡ secret_line) ⊎ ((name : Text) × IsNamedIn 
 abbrev pub IsAllOf : Option (List ℕ) → Input → Type 0
 IsAllOf told input = (bytes : List ℕ) × AreAllOf told bytes × (input ≡ whole bytes)
 
-module _ {R E : Type 0} (told : Told) (remaining : R → Option (List ℕ)) (contents : E → Option (List ℕ)) where
-  -- the input is what a reader has behind the values of these files
-  abbrev pub IsBehind : Texts → R → Input → Type 0
-  IsBehind files reader input = (secret passphrase : Option (List ℕ)) × (behind : R)
-      × TakesValues told remaining files secret passphrase reader behind × IsAllOf (remaining behind) input
+-- the input is what a reader has behind the values of these files
+abbrev pub IsBehind : {R : Type 0} → Told → (R → Option (List ℕ)) → Texts → R → Input → Type 0
+IsBehind {R} told remaining files reader input = (secret passphrase : Option (List ℕ)) × (behind : R)
+    × TakesValues told remaining files secret passphrase reader behind × IsAllOf (remaining behind) input
 
+module _ {R E : Type 0} (told : Told) (remaining : R → Option (List ℕ)) (contents : E → Option (List ℕ)) where
   -- With exit status 0, exactly the lines of `said_of` are said. For random bytes that would be typed it is that line. With 1 it is the
   -- line about a passphrase that is typed, the line about mnemonics if the command began to read them, for which its texts had to be right,
   -- and one message, or what is said once the input is read. If the text of the plan has another form than a plan, it is that message, and
   -- to a person which form a plan has. With 2 it is the line about such a passphrase, and what is wrong with a value.
-  pub record IsSaidOfCall (source : Source) (destination : Destination) (call : Call) (reader : R) (old new : Messages E) (status : ℕ) : Type 0 where
-    pub done : status ≡ 0 → (input : Input) × IsBehind call.files reader input × Says contents old new (said_of source destination call input)
-    pub typed : IsTyped source call.job → Says contents old new typed_line
+  pub record IsSaidOfCall (terminals : Terminals) (call : Call) (reader : R) (old new : Messages E) (status : ℕ) : Type 0 where
+    pub done : status ≡ 0 → (input : Input) × IsBehind told remaining call.files reader input × Says contents old new (said_of terminals call input)
+    pub typed : IsTyped terminals.source call.job → Says contents old new typed_line
     pub refused : status ≡ 1 → (HasFormlessPlan call.job → ⊥)
-        → (begun : Bool) × (text : Text) × IsWithin begun (types_mnemonics source call.job)
-        × ((length text ≤ longest_message) ⊎ ((input : Input) × IsBehind call.files reader input
-        × (text ≡ late_lines call.job (is_attended source destination) (tells_of_none source destination call) input)))
+        → (begun : Bool) × (text : Text) × IsWithin begun (types_mnemonics terminals.source call.job)
+        × ((length text ≤ longest_message) ⊎ ((input : Input) × IsBehind told remaining call.files reader input
+        × (text ≡ late_lines call.job (is_attended terminals) (tells_of_none terminals call) input)))
         × (begun ≡ true → (secret : Text) × IsReady call.job secret)
-        × Says contents old new (line_if (types_passphrase source call.files.passphrase) shown_line ++ (line_if begun typing_line ++ text))
+        × Says contents old new (line_if (types_passphrase terminals.source call.files.passphrase) shown_line ++ (line_if begun typing_line ++ text))
     pub formless : status ≡ 1 → HasFormlessPlan call.job → (text : Text) × (length text ≤ longest_message)
-        × Says contents old new (line_if (types_passphrase source call.files.passphrase) shown_line
-        ++ (text ++ line_if (is_attended source destination) plan_form_line))
-    pub wrong : status ≡ 2 → IsTyped source call.job ⊎ ((text : Text) × IsValueLine call.files text
-        × Says contents old new (line_if (types_passphrase source call.files.passphrase) shown_line ++ text))
+        × Says contents old new (line_if (types_passphrase terminals.source call.files.passphrase) shown_line
+        ++ (text ++ line_if (is_attended terminals) plan_form_line))
+    pub wrong : status ≡ 2 → IsTyped terminals.source call.job ⊎ ((text : Text) × IsValueLine call.files text
+        × Says contents old new (line_if (types_passphrase terminals.source call.files.passphrase) shown_line ++ text))
 
   -- Nothing is said beside help or the version. What is said of values that are missing or given twice, and of a call, is as above.
-  pub record IsSaidAs (source : Source) (destination : Destination) (words : List Text) (reader : R) (old new : Messages E) (status : ℕ) : Type 0 where
+  pub record IsSaidAs (terminals : Terminals) (words : List Text) (reader : R) (old new : Messages E) (status : ℕ) : Type 0 where
     pub asked : AsksForText words → status ≡ 0 → Says contents old new []
     pub taken : takes shamir_app words ≡ true
-        → ((bad : BadValues) × GivesBadValues words bad × Says contents old new (said_of_values (is_attended source destination) bad))
-        ⊎ ((call : Call) × GivesCall words call × IsSaidOfCall source destination call reader old new status)
+        → ((bad : BadValues) × GivesBadValues words bad × Says contents old new (said_of_values (is_attended terminals) bad))
+        ⊎ ((call : Call) × GivesCall words call × IsSaidOfCall terminals call reader old new status)
 
   -- If memory runs out, that is said, after the lines that were said before.
-  abbrev pub IsSaid : {W : Type 0} → Source → Destination → List Text → R → Messages E → Messages E → Ended R W → Type 0
-  IsSaid source destination words reader old new (With status read_to written_to) = IsSaidAs source destination words reader old new status
-  IsSaid source destination words reader old new NoMemory = (typed begun : Bool) × IsWithin typed (is_terminal source) × IsWithin begun (is_terminal source)
+  abbrev pub IsSaid : {W : Type 0} → Terminals → List Text → R → Messages E → Messages E → Ended R W → Type 0
+  IsSaid terminals words reader old new (With status read_to written_to) = IsSaidAs terminals words reader old new status
+  IsSaid terminals words reader old new NoMemory = (typed begun : Bool) × IsWithin typed (is_terminal terminals.source) × IsWithin begun (is_terminal terminals.source)
       × Says contents old new (line_if typed shown_line ++ (line_if begun typing_line ++ memory_line))
 
 -- ---- within the program; no public contract cites this

@@ -7,6 +7,7 @@ ghost use Rattle.s39_input.specs.Runs.{Runs};
 ghost use Rattle.s39_cli.specs.Ending.{Delivers, GoesOut, HandsOn, HasStatus};
 ghost use Rattle.s39_cli.specs.Outcome.{status_of};
 ghost use Rattle.s39_cli.specs.Said.{SaysOnceRead, work_late_lines};
+ghost use Rattle.s39_cli.specs.Seen.{SeesOnceRead, SeesSome, SeesWork};
 ghost use Rattle.s39_cli.specs.Untouched.{IsAtItsEnd};
 ghost use Rattle.s39_cli.specs.Work.{IsWorkOutput};
 
@@ -16,7 +17,7 @@ use crate::patient::Patient;
 use crate::telling::tell_of_none;
 use crate::work::Work;
 use s39_clearing::Cleared;
-use s39_tool::{Counting, DeviceFailure, Fault, Refusal};
+use s39_tool::{Counting, DeviceFailure, Fault, Refusal, Watch};
 use std::alloc::Global;
 use std::io::{BufWriter, Read, Write};
 
@@ -29,12 +30,13 @@ pub(crate) struct Finished<R, W> {
 }
 
 /// Runs a command, and tells a person what the notes say: of the input that it read, and that no passphrase was used.
-fn run_told<R: Read, W: Write, E: Write>(
+fn run_told<R: Read, W: Write, E: Write, P: Watch>(
     work: &Work,
     input: &mut Counting<R>,
     output: &mut Counting<W>,
     notes: Notes,
     errors: &mut Messages<E>,
+    watch: &mut P,
 ) -> Result<bool, Fault>
     requires readable { input.old.failures < u64.MAX }
     requires writable { output.old.failures < u64.MAX }
@@ -47,21 +49,24 @@ fn run_told<R: Read, W: Write, E: Write>(
     ensures untouched { IsAtItsEnd work.now → status_of result ≡ 1
         → ((fault : Fault) × (result ≡ Err fault)) × (output.new ≡ output.old) }
     ensures silent { IsFalse notes.is_attended → IsFalse notes.tells_of_none → errors.new ≡ errors.old }
+    ensures seen { SeesOnceRead P.sees R.remaining (SeesWork P.sees work.now) input.old.device result
+        watch.old watch.new }
 {
-    let answer = work.run(input, output, notes.is_attended, errors);
+    let answer = work.run(input, output, notes.is_attended, errors, watch);
     tell_of_none(&answer, notes.tells_of_none, errors);
     answer
 }
 
 /// Runs a command whose output goes out as its buffer fills, and gives `None` if there is no memory for the buffer. A person is told
 /// that no passphrase was used before the rest of the buffer goes out, in which the secret of a recovery is.
-pub(crate) fn by_buffer<R: Read + Drop, W: Write + Drop, E: Write>(
+pub(crate) fn by_buffer<R: Read + Drop, W: Write + Drop, E: Write, P: Watch>(
     alloc: Global,
     work: &Work,
     input: R,
     output: W,
     notes: Notes,
     errors: &mut Messages<E>,
+    watch: &mut P,
 ) -> Option<Finished<R, W>>
     ensures delivers { IfSome result (λ finished.
         Delivers R.remaining W.contents (HasStatus (IsWorkOutput work.now))
@@ -74,13 +79,16 @@ pub(crate) fn by_buffer<R: Read + Drop, W: Write + Drop, E: Write>(
         errors.old errors.new) }
     ensures silent { IsFalse notes.is_attended → IsFalse notes.tells_of_none → errors.new ≡ errors.old }
     ensures unsaid { IfNone result (errors.new ≡ errors.old) }
+    ensures seen { IfSome result (λ finished. SeesOnceRead P.sees R.remaining (SeesWork P.sees work.now)
+        input finished.answer watch.old watch.new) }
+    ensures unseen { IfNone result (watch.new ≡ watch.old) }
 {
     let Ok(buffered) = BufWriter::new(alloc, output) else {
         return None;
     };
     let mut reader = Counting::new(input);
     let mut writer = Counting::new(buffered);
-    let answer = run_told(work, &mut reader, &mut writer, notes, errors);
+    let answer = run_told(work, &mut reader, &mut writer, notes, errors, watch);
     let (answer, output) = handed_on(answer, writer.into_inner());
     Some(Finished {
         answer,
@@ -128,12 +136,13 @@ fn hand_on<W: Write + Drop>(answer: &Result<bool, Fault>, output: &mut BufWriter
 }
 
 /// Runs a command whose output goes out line by line, each line in one piece.
-pub(crate) fn by_lines<R: Read + Drop, W: Write + Drop, E: Write>(
+pub(crate) fn by_lines<R: Read + Drop, W: Write + Drop, E: Write, P: Watch>(
     work: &Work,
     input: R,
     output: W,
     notes: Notes,
     errors: &mut Messages<E>,
+    watch: &mut P,
 ) -> Finished<R, W>
     ensures delivers { Delivers R.remaining W.contents (HasStatus (IsWorkOutput work.now))
         input output (status_of result.answer) result.input result.output }
@@ -141,10 +150,12 @@ pub(crate) fn by_lines<R: Read + Drop, W: Write + Drop, E: Write>(
         (work_late_lines work.now notes.is_attended notes.tells_of_none) input result.answer
         errors.old errors.new }
     ensures silent { IsFalse notes.is_attended → IsFalse notes.tells_of_none → errors.new ≡ errors.old }
+    ensures seen { SeesOnceRead P.sees R.remaining (SeesWork P.sees work.now) input result.answer
+        watch.old watch.new }
 {
     let mut reader = Counting::new(input);
     let mut writer = Counting::new(Patient::new(output));
-    let answer = run_told(work, &mut reader, &mut writer, notes, errors);
+    let answer = run_told(work, &mut reader, &mut writer, notes, errors, watch);
     let (answer, output) = flushed(answer, writer.into_inner());
     Finished {
         answer,

@@ -4,21 +4,22 @@ ghost use Rattle.std.specs.Fmt.{decimal};
 ghost use Rattle.s39_set.specs.declared.set_lack.SetLack.{SetLack};
 ghost use Rattle.s39_set.specs.Lack.{IsLack};
 ghost use Rattle.s39_set.specs.ShareSet.{IsShareSet};
-ghost use Rattle.s39_input.specs.declared.output.TheConstants.{LINE_BYTES};
 ghost use Rattle.s39_input.specs.Accepted.{read_as};
 ghost use Rattle.s39_input.specs.Runs.{Runs};
 ghost use Rattle.s39_drilling.specs.Drill.{IsDrillOutput};
 ghost use Rattle.s39_reading.specs.Exponent.{exponent_of};
 ghost use Rattle.s39_cli.specs.Said.{Says, SaysOnceRead, count_line, least_slow, line_if, read_lines, seconds_line, set_lines};
+ghost use Rattle.s39_cli.specs.Seen.{SeesDrill, SeesOnceRead, SeesSome};
 
 use crate::messages::Messages;
 use crate::work::Drill;
 use s39_drilling::{list_from, start_of};
-use s39_input::{Line, checked_set, push_text};
+use s39_input::{Line, checked_set, push_number, push_text};
 use s39_reading::exponent_of;
 use s39_reading::laws::shares_have_the_exponent;
+use s39_set::laws::one_listing;
 use s39_set::{ShareSet, quorum_count_of};
-use s39_tool::{Counting, Done, Fault};
+use s39_tool::{Counting, Done, Fault, Watch};
 use std::io::{Read, Write};
 
 /// The least exponent of which a person is told how long deciphering takes.
@@ -31,13 +32,14 @@ const NUMBER: &[u8] = b"shamir: number of quorums: ";
 const LEAST_NUMBER: &[u8] = b"shamir: number of quorums: at least ";
 
 /// Drills an input, as `run_drill` does. If a person looks on, it tells of the set before it lists the first quorum. It tells
-/// nothing if the drill is refused.
-pub(crate) fn drill_told<R: Read, W: Write, E: Write>(
+/// nothing if the drill is refused. Each time that the line of a quorum is written, `watch` is told how many are.
+pub(crate) fn drill_told<R: Read, W: Write, E: Write, P: Watch>(
     drill: &Drill,
     input: &mut Counting<R>,
     output: &mut Counting<W>,
     is_attended: bool,
     errors: &mut Messages<E>,
+    watch: &mut P,
 ) -> Result<Done, Fault>
     requires readable { input.old.failures < u64.MAX }
     requires writable { output.old.failures < u64.MAX }
@@ -48,7 +50,10 @@ pub(crate) fn drill_told<R: Read, W: Write, E: Write>(
         (λ input. line_if is_attended (read_lines (read_as input))) input.old.device result
         errors.old errors.new }
     ensures silent { IsFalse is_attended → errors.new ≡ errors.old }
+    ensures seen { SeesOnceRead P.sees R.remaining (SeesDrill P.sees drill.now.after drill.now.limit)
+        input.old.device result watch.old watch.new }
 {
+    one_listing();
     let set = checked_set(drill.passphrase, input)?;
     let start = start_of(&set, drill.after.as_ref())?;
     tell_of_set(&set, is_attended, errors);
@@ -59,6 +64,7 @@ pub(crate) fn drill_told<R: Read, W: Write, E: Write>(
         drill.passphrase,
         drill.limit,
         output,
+        watch,
     )?)
 }
 
@@ -82,7 +88,8 @@ fn tell_of_set<E: Write>(set: &ShareSet, is_attended: bool, errors: &mut Message
 fn slow_exponent(set: &ShareSet) -> Option<u8>
     requires is_set { IsShareSet set.now }
     requires some { (lack : SetLack) → ¬ IsLack set.now lack }
-    ensures slow { IfSome result (λ exponent. (exponent ≡ exponent_of set.now) × (least_slow ≤ exponent) × (exponent < 16)) }
+    ensures slow { IfSome result (λ exponent. (exponent ≡ exponent_of set.now)
+        × (least_slow ≤ exponent) × (exponent < 16)) }
     ensures quick { IfNone result (exponent_of set.now < least_slow) }
 {
     shares_have_the_exponent();
@@ -120,7 +127,12 @@ fn say_seconds<E: Write>(exponent: u8, errors: &mut Messages<E>)
 }
 
 /// Says a number between two short texts, in one write.
-fn say_number<E: Write>(before: &[u8], number: u64, after: &[u8], errors: &mut Messages<E>)
+pub(crate) fn say_number<E: Write>(
+    before: &[u8],
+    number: u64,
+    after: &[u8],
+    errors: &mut Messages<E>,
+)
     requires { length before.now + length after.now ≤ 100 }
     ensures { Says E.contents errors.old errors.new (before.now ++ decimal number ++ after.now) }
 {
@@ -129,15 +141,4 @@ fn say_number<E: Write>(before: &[u8], number: u64, after: &[u8], errors: &mut M
     push_number(&mut line, number);
     push_text(&mut line, after);
     errors.say(line.as_slice());
-}
-
-/// Appends a number in decimal.
-fn push_number(line: &mut Line, number: u64)
-    requires { length line.old.items + length (decimal number) ≤ LINE_BYTES }
-    ensures { line.new.items ≡ line.old.items ++ decimal number }
-{
-    if number >= 10 {
-        push_number(line, number / 10);
-    }
-    line.push(b'0' + (number % 10) as u8);
 }

@@ -1,18 +1,21 @@
 //! Facts about the definitions. Each is the contract of a function that does nothing, or only calls other laws.
-ghost use Rattle.std.specs.Prelude.{◌≡◌, ◌++◌, ℕ, List, [], ◌∷◌, Option, Some, codes, false, length};
+ghost use Rattle.std.specs.Prelude.{◌≡◌, ◌++◌, ℕ, List, [], ◌∷◌, IsFalse, Option, Some, codes, false, filter, length};
+ghost use Rattle.std.specs.List.{range_with_len};
 ghost use Rattle.s39_input.specs.Input.{Input};
 ghost use Rattle.s39_set.specs.Written.{IsWrittenForm};
 ghost use Rattle.s39_command.specs.declared.command.Call.{Call};
 ghost use Rattle.s39_command.specs.declared.command.Job.{Job};
 ghost use Rattle.s39_cli.specs.declared.telling.TheConstants.{MESSAGE_BYTES};
-ghost use Rattle.s39_cli.specs.Said.{IsSilentAtNone, longest_message, said_of};
+ghost use Rattle.s39_drilling.specs.Watching.{AreSeen};
+ghost use Rattle.s39_cli.specs.Said.{IsSilentAtNone, Says, TellsListed, is_told, line_if, listed_lines, longest_message, said_of};
 ghost use Rattle.s39_cli.specs.Ending.{AreAllOf, HoldsBeginning};
 ghost use Rattle.s39_cli.specs.Outcome.{HasNoCause, IsReady};
 ghost use Rattle.s39_cli.specs.Headline.{CreatedJobsRecover, DrillJobsList, OneOutcome, RecoverJobsRecover, ReissueJobsReissue, ResplitJobsResplit};
 ghost use Rattle.s39_cli.specs.OneEnding.{OneEnding, SomeEnding};
 ghost use Rattle.s39_cli.specs.Headline.{RepairsTellOfTwo, SameValuesWriteTheSame, SomeOutcome};
 
-use crate::runner::{Destination, Ended, Source};
+use crate::progress::DrillProgress;
+use crate::runner::{Destination, Ended, Source, Terminals};
 use s39_backup::laws::one_plan_reading;
 use s39_creating::laws::{
     created_backups_are_split_anew, created_backups_reissue, one_create_output, one_reissue_output,
@@ -33,7 +36,9 @@ use s39_set::laws::written_forms;
 /// the greatest details.
 pub fn numbers()
     ensures room { MESSAGE_BYTES ≡ longest_message }
-    ensures longest { longest_message ≡ length (codes "shamir: line 18446744073709551615: 255 cannot tell 255.255: 255 of 255 members, 255 of 255 other groups\n") }
+    ensures longest { longest_message
+        ≡ length (codes "shamir: line 18446744073709551615: 255 cannot tell 255.255: "
+        ++ codes "255 of 255 members, 255 of 255 other groups\n") }
 {}
 
 /// With status 3, a writer that tells its bytes holds what it held and the text up to some place. What a reader that tells its
@@ -47,9 +52,26 @@ pub fn told_bytes_are_exact()
 /// If no person looks on, there is nothing to say with status 0, and the writer of messages then stays as it was.
 pub fn nothing_is_said_to_nobody<R, W, E>()
     ensures unsaid { (call : Call) (input : Input)
-        → said_of Source.Elsewhere Destination.Elsewhere call input ≡ [] }
+        → said_of (record {
+          source = Source.Elsewhere;
+          destination = Destination.Elsewhere;
+          errors = Destination.Elsewhere;
+        }) call input ≡ [] }
     ensures silent { (input : R) (output : W) (old new : E)
         → IsSilentAtNone false (Ended.With 0 input output) old new → new ≡ old }
+{}
+
+/// What a drill says while it lists so many quorums is `listed_lines`, if that is wanted and its device takes all. If it isn't wanted,
+/// the device stays as it was.
+pub fn listed_quorums_are_told<E>()
+    ensures said { (contents : E → Option (List ℕ)) (n : ℕ) (old new : DrillProgress E)
+        → AreSeen (TellsListed contents) n old new
+        → Says contents old.messages new.messages (line_if old.is_wanted (listed_lines n)) }
+    ensures silent { (contents : E → Option (List ℕ)) (n : ℕ) (old new : DrillProgress E)
+        → AreSeen (TellsListed contents) n old new → IsFalse old.is_wanted → new ≡ old }
+    ensures few { filter is_told (range_with_len 1 40) ≡ 1 ∷ 2 ∷ 4 ∷ 8 ∷ 16 ∷ 32 ∷ [] }
+    ensures many { filter is_told (1048576 ∷ 1048577 ∷ 1572864 ∷ 2097152 ∷ 3145728 ∷ 4194303 ∷ [])
+        ≡ 1048576 ∷ 2097152 ∷ 3145728 ∷ [] }
 {}
 
 /// There is a text that writes names.

@@ -9,6 +9,7 @@ pub mod laws;
 mod messages;
 mod notes;
 mod patient;
+mod progress;
 mod random_file;
 mod runner;
 mod secret_text;
@@ -18,7 +19,9 @@ mod values;
 mod work;
 
 pub use messages::Messages;
-pub use runner::{Destination, Ended, Source, program};
+pub use progress::DrillProgress;
+pub use runner::{Destination, Ended, Source, Terminals, program};
+pub use s39_tool::{Unwatched, Watch};
 pub use telling::no_words;
 pub use terminal::{Watched, with_rest_dropped};
 pub use values::{Shelf, SystemFiles};

@@ -2,7 +2,7 @@
 ghost use Rattle.std.specs.Prelude.{◌≡◌, IsFalse};
 ghost use Rattle.s39_cli.specs.Said.{is_attended, is_bare, recovers_any, tells_of_drawing, tells_of_none, types_mnemonics, types_passphrase};
 
-use crate::runner::{Destination, Source};
+use crate::runner::{Destination, Source, Terminals};
 use crate::values::INPUT;
 use s39_command::{BadValues, Call, Job};
 
@@ -36,18 +36,18 @@ pub(crate) struct Notes {
 
 impl Notes {
     /// Those of a call.
-    pub(crate) fn of(source: Source, destination: Destination, call: &Call) -> Notes
-        ensures passphrase { result.types_passphrase ≡ types_passphrase source call.now.files.passphrase }
-        ensures mnemonics { result.types_mnemonics ≡ types_mnemonics source call.now.job }
-        ensures none { result.tells_of_none ≡ tells_of_none source destination call.now }
-        ensures attended { result.is_attended ≡ is_attended source destination }
-        ensures unattended { IsFalse (is_attended source destination) → IsFalse result.types_passphrase
+    pub(crate) fn of(terminals: Terminals, call: &Call) -> Notes
+        ensures passphrase { result.types_passphrase ≡ types_passphrase terminals.source call.now.files.passphrase }
+        ensures mnemonics { result.types_mnemonics ≡ types_mnemonics terminals.source call.now.job }
+        ensures none { result.tells_of_none ≡ tells_of_none terminals call.now }
+        ensures attended { result.is_attended ≡ is_attended terminals }
+        ensures unattended { IsFalse (is_attended terminals) → IsFalse result.types_passphrase
             × IsFalse result.types_mnemonics × IsFalse result.tells_of_none }
     {
-        let is_attended = is_attended(source, destination);
+        let is_attended = is_attended(terminals);
         Notes {
-            types_passphrase: types_passphrase(source, call.files.passphrase),
-            types_mnemonics: types_mnemonics(source, &call.job),
+            types_passphrase: types_passphrase(terminals.source, call.files.passphrase),
+            types_mnemonics: types_mnemonics(terminals.source, &call.job),
             tells_of_none: is_attended && is_bare(call),
             is_attended,
         }
@@ -74,12 +74,12 @@ fn types_mnemonics(source: Source, job: &Job) -> bool
     }
 }
 
-/// Whether a person types the input, or sees the output.
-pub(crate) fn is_attended(source: Source, destination: Destination) -> bool
-    ensures { result ≡ is_attended source destination }
+/// Whether a person looks on: types the input, or sees the output or the messages.
+pub(crate) fn is_attended(terminals: Terminals) -> bool
+    ensures { result ≡ is_attended terminals }
 {
-    match (source, destination) {
-        (Source::Elsewhere, Destination::Elsewhere) => false,
+    match (terminals.source, terminals.destination, terminals.errors) {
+        (Source::Elsewhere, Destination::Elsewhere, Destination::Elsewhere) => false,
         _ => true,
     }
 }

@@ -5,6 +5,7 @@ ghost use Rattle.s39_command.specs.Command.{IsInRange};
 ghost use Rattle.s39_cli.specs.Ending.{DoesDrawn, DoesJob, Ends, EndsUnread, EndsWithoutJob, IsDoneWith, IsTyped, OnEnd, status_in};
 ghost use Rattle.s39_cli.specs.Values.{Told};
 ghost use Rattle.s39_cli.specs.Said.{IsSaid, IsSaidOfJob, IsSaidWithoutJob, IsSilentAtNone, OnStatus, Says, is_attended, long_line, said_of_values, typed_line};
+ghost use Rattle.s39_cli.specs.Seen.{IsSeen, IsSeenOfJob, SeesSome};
 ghost use Rattle.s39_cli.specs.Untouched.{IsUntouchedBy, IsUntouchedIfRefused};
 ghost use Rattle.s39_cli.specs.Work.{HasBadPassphrase};
 
@@ -16,7 +17,7 @@ use crate::telling::{REASON_BYTES, answered, no_memory_left, report, say_of_file
 use crate::values::{NoValue, Secrets, Shelf, Unread, Values};
 use crate::work::{Unready, Work};
 use s39_command::{BadValues, Job, NoJob, read_words};
-use s39_tool::Plan;
+use s39_tool::{Plan, Watch};
 use std::alloc::Global;
 use std::fmt::InlineText;
 use std::io::{Read, Write};
@@ -40,13 +41,24 @@ pub enum Source {
     Elsewhere,
 }
 
-/// Where the output of a command goes.
+/// Where the output of a command goes, or what is said beside it.
 #[derive(Clone, Copy, Debug, PartialEq, Eq)]
 pub enum Destination {
     /// To a terminal, at which a person watches it.
     Terminal,
     /// To a file, or to another program.
     Elsewhere,
+}
+
+/// Where the input of a command comes from, and where its output and its messages go.
+#[derive(Clone, Copy, Debug, PartialEq, Eq)]
+pub struct Terminals {
+    /// Where standard input comes from.
+    pub source: Source,
+    /// Where standard output goes.
+    pub destination: Destination,
+    /// Where standard error goes.
+    pub errors: Destination,
 }
 
 /// How the program ended.
@@ -83,39 +95,42 @@ impl<R: Drop, W: Drop> Ended<R, W> {
 /// If the words name files for values, the program reads these values first: those in files of `shelf`, and then those in the
 /// first lines of `input`. The file of random bytes is read once the plan is judged. Results and help go to `output`: the lines of `drill`, and at a terminal those of `show` and `repair`,
 /// as soon as each is known. A fault is a line on `errors`, where the text of a refused command line goes too, and what a person at a
-/// terminal is told. The program takes all its memory before it reads `input`. Only lines that hold values are read before that. A
+/// terminal is told. Each time that a drill has written the line of a quorum, `watch` is told how many it has listed. The program takes all its memory before it reads `input`. Only lines that hold values are read before that. A
 /// failing `errors` changes no status.
-pub fn program<S: Shelf, R: Read + Drop, W: Write + Drop, E: Write>(
+pub fn program<S: Shelf, R: Read + Drop, W: Write + Drop, E: Write, P: Watch>(
     shelf: &S,
     alloc: Global,
     words: &[&str],
     input: R,
     output: W,
     errors: &mut Messages<E>,
-    source: Source,
-    destination: Destination,
+    watch: &mut P,
+    terminals: Terminals,
 ) -> Ended<R, W>
     // Of readers and writers that tell their bytes.
-    ensures ends { Ends (S.told shelf.now) R.remaining W.contents source
+    ensures ends { Ends (S.told shelf.now) R.remaining W.contents terminals.source
         (map (λ word. word.now) words.now) input output result }
     // Of any.
     ensures untouched { IsUntouchedIfRefused (map (λ word. word.now) words.now) result output }
-    ensures said { IsSaid (S.told shelf.now) R.remaining E.contents source destination
+    ensures said { IsSaid (S.told shelf.now) R.remaining E.contents terminals
         (map (λ word. word.now) words.now) input errors.old errors.new result }
     // Of any writer of messages.
-    ensures silent { IsSilentAtNone (is_attended source destination) result errors.old errors.new }
+    ensures silent { IsSilentAtNone (is_attended terminals) result errors.old errors.new }
+    ensures seen { SeesSome P.sees watch.old watch.new }
+    ensures listed { IsSeen P.sees (S.told shelf.now) R.remaining
+        (map (λ word. word.now) words.now) input watch.old watch.new result }
 {
     let call = match read_words(alloc, words) {
         Ok(call) => call,
         Err(no_job) => {
-            let watched = is_attended(source, destination);
+            let watched = is_attended(terminals);
             return without_job(no_job, watched, input, output, errors);
         }
     };
-    if is_typed(source, &call.job) {
+    if is_typed(terminals.source, &call.job) {
         return typed(input, output, errors);
     }
-    let notes = Notes::of(source, destination, &call);
+    let notes = Notes::of(terminals, &call);
     errors.say_if(notes.types_passphrase, SHOWN);
     let mut input = input;
     let values = match Values::read(shelf, call.files, &mut input) {
@@ -130,13 +145,14 @@ pub fn program<S: Shelf, R: Read + Drop, W: Write + Drop, E: Write>(
         input,
         output,
         errors,
+        watch,
         notes,
-        destination,
+        terminals.destination,
     )
 }
 
 /// Does the job with these texts, or with the random bytes of its file once its plan is judged.
-fn by_job<S: Shelf, R: Read + Drop, W: Write + Drop, E: Write>(
+fn by_job<S: Shelf, R: Read + Drop, W: Write + Drop, E: Write, P: Watch>(
     shelf: &S,
     alloc: Global,
     job: Job,
@@ -144,6 +160,7 @@ fn by_job<S: Shelf, R: Read + Drop, W: Write + Drop, E: Write>(
     input: R,
     output: W,
     errors: &mut Messages<E>,
+    watch: &mut P,
     notes: Notes,
     destination: Destination,
 ) -> Ended<R, W>
@@ -155,9 +172,21 @@ fn by_job<S: Shelf, R: Read + Drop, W: Write + Drop, E: Write>(
         notes.types_mnemonics notes.tells_of_none input errors.old errors.new result }
     ensures silent { IsFalse notes.is_attended → IsFalse notes.types_mnemonics
         → IsSilentAtNone notes.tells_of_none result errors.old errors.new }
+    ensures seen { SeesSome P.sees watch.old watch.new }
+    ensures listed { IsSeenOfJob P.sees R.remaining job.entry input watch.old watch.new result }
 {
     let Some((plan, name)) = random_file(&job) else {
-        return by_texts(alloc, job, texts, input, output, errors, notes, destination);
+        return by_texts(
+            alloc,
+            job,
+            texts,
+            input,
+            output,
+            errors,
+            watch,
+            notes,
+            destination,
+        );
     };
     let _judged = match Plan::parse(plan) {
         Ok(judged) => judged,
@@ -178,7 +207,17 @@ fn by_job<S: Shelf, R: Read + Drop, W: Write + Drop, E: Write>(
         secret: random.bytes.as_slice(),
         passphrase: texts.passphrase,
     };
-    by_texts(alloc, job, texts, input, output, errors, notes, destination)
+    by_texts(
+        alloc,
+        job,
+        texts,
+        input,
+        output,
+        errors,
+        watch,
+        notes,
+        destination,
+    )
 }
 
 /// The plan and the file of random bytes of a job that takes some from a file.
@@ -193,13 +232,14 @@ fn random_file<'a>(job: &Job<'a>) -> Option<(&'a str, &'a str)>
 }
 
 /// Does the job with these texts.
-fn by_texts<R: Read + Drop, W: Write + Drop, E: Write>(
+fn by_texts<R: Read + Drop, W: Write + Drop, E: Write, P: Watch>(
     alloc: Global,
     job: Job,
     texts: Secrets,
     input: R,
     output: W,
     errors: &mut Messages<E>,
+    watch: &mut P,
     notes: Notes,
     destination: Destination,
 ) -> Ended<R, W>
@@ -211,6 +251,8 @@ fn by_texts<R: Read + Drop, W: Write + Drop, E: Write>(
         notes.types_mnemonics notes.tells_of_none input errors.old errors.new result }
     ensures silent { IsFalse notes.is_attended → IsFalse notes.types_mnemonics
         → IsSilentAtNone notes.tells_of_none result errors.old errors.new }
+    ensures seen { SeesSome P.sees watch.old watch.new }
+    ensures listed { IsSeenOfJob P.sees R.remaining job.entry input watch.old watch.new result }
 {
     let work = match Work::of(alloc, job, texts) {
         Ok(work) => work,
@@ -218,10 +260,10 @@ fn by_texts<R: Read + Drop, W: Write + Drop, E: Write>(
     };
     errors.say_if(asks(notes, &work), TYPING);
     if work.goes_by_lines(destination) {
-        let finished = by_lines(&work, input, output, notes, errors);
+        let finished = by_lines(&work, input, output, notes, errors, watch);
         return answered(finished, errors);
     }
-    match by_buffer(alloc, &work, input, output, notes, errors) {
+    match by_buffer(alloc, &work, input, output, notes, errors, watch) {
         Some(finished) => answered(finished, errors),
         None => no_memory_left(errors),
     }

@@ -17,7 +17,7 @@ use s39_command::Job;
 use s39_kdf::{BadFingerprint, NotedFingerprint, check_passphrase, parse_fingerprint};
 use s39_set::{BadCursor, BadNames, Quorum, Status, parse_names, parse_quorum};
 use s39_tool::{
-    Counting, Done, Fault, Options, Plan, PlanError, SecretForm, run_create, run_recover,
+    Counting, Done, Fault, Options, Plan, PlanError, SecretForm, Watch, run_create, run_recover,
     run_reissue, run_repair, run_resplit, run_show, run_status,
 };
 use std::alloc::Global;
@@ -186,6 +186,7 @@ impl Reissue {
 
 impl<'a> Work<'a> {
     ghost use Rattle.s39_cli.specs.Said.{SaysOnceRead, line_if, work_input_lines};
+    ghost use Rattle.s39_cli.specs.Seen.{SeesOnceRead, SeesWork};
     ghost use Rattle.s39_cli.specs.Untouched.{IsAtItsEnd};
     ghost use Rattle.s39_cli.specs.Work.{HasBadPassphrase, IsWorkOf, IsWorkOutput};
 
@@ -274,13 +275,14 @@ impl<'a> Work<'a> {
 
     /// Runs the command, and gives whether all is well: no quorum was refused or gives another secret than the expected one,
     /// enough groups are complete, and one mnemonic fits each line, if the command looks for that. If a person looks on, a drill
-    /// tells first how much there is to do.
-    pub(crate) fn run<R: Read, W: Write, E: Write>(
+    /// tells first how much there is to do. `watch` is told how many quorums it has listed, each time that the line of one is written.
+    pub(crate) fn run<R: Read, W: Write, E: Write, P: Watch>(
         &self,
         input: &mut Counting<R>,
         output: &mut Counting<W>,
         is_attended: bool,
         errors: &mut Messages<E>,
+        watch: &mut P,
     ) -> Result<bool, Fault>
         requires readable { input.old.failures < u64.MAX }
         requires writable { output.old.failures < u64.MAX }
@@ -293,6 +295,8 @@ impl<'a> Work<'a> {
         ensures untouched { IsAtItsEnd self.now → status_of result ≡ 1
             → ((fault : Fault) × (result ≡ Err fault)) × (output.new ≡ output.old) }
         ensures silent { IsFalse is_attended → errors.new ≡ errors.old }
+        ensures seen { SeesOnceRead P.sees R.remaining (SeesWork P.sees self.now) input.old.device result
+            watch.old watch.new }
     {
         match self {
             Work::Show => where_done(run_show(input, output)),
@@ -309,9 +313,14 @@ impl<'a> Work<'a> {
                 form,
                 expected,
             } => where_done(run_recover(*form, *expected, passphrase, input, output)),
-            Work::Drill(drill) => {
-                without_mismatches(drill_told(drill, input, output, is_attended, errors))
-            }
+            Work::Drill(drill) => without_mismatches(drill_told(
+                drill,
+                input,
+                output,
+                is_attended,
+                errors,
+                watch,
+            )),
             Work::Status => with_enough(run_status(input, output)),
             Work::Reissue(reissue) => {
                 where_done(run_reissue(&reissue.plan, &reissue.names, input, output))

@@ -11,3 +11,4 @@ pub mod Outputs
 pub mod OneCreated
 pub mod WholeTexts
 pub mod Running
+pub mod Watching

@@ -158,6 +158,8 @@ pub record DrillLaws : Type 0 where
   pub none : (set : List ShareFields) (given : Option Names) (limit : ℕ) → HasNoQuorumAfter set given → IsListing set given limit []
   pub exists : (set : List ShareFields) (given : Option Names) (limit : ℕ) → IsShareSet set
       → (listed : List Names) × IsListing set given limit listed
+  pub once : (set : List ShareFields) (given : Option Names) (limit : ℕ) (listed others : List Names)
+      → IsListing set given limit listed → IsListing set given limit others → listed ≡ others
   pub walks : (set : List ShareFields) (given : Option Names) (quorums : List Names)
       → (IsWalk set given quorums ↔ AreAllQuorumsAfter set given quorums)
   pub outcome : (set : List ShareFields) (names : Names) (passphrase : List ℕ) → IsShareSet set → IsQuorum set names

@@ -1,3 +1,4 @@
 pub mod Drill
 pub mod Slices
 pub mod Lengths
+pub mod Watching

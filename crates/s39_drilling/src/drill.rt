@@ -5,23 +5,26 @@ ghost use Rattle.s39_kdf.specs.Limits.{IsPrintable, longest_secret};
 ghost use Rattle.s39_kdf.specs.declared.limits.BadPassphrase.{BadPassphrase};
 ghost use Rattle.s39_set.specs.Names.{Names};
 ghost use Rattle.s39_set.specs.Looks.{most_step_looks};
+ghost use Rattle.s39_set.specs.Listing.{IsListing};
 ghost use Rattle.s39_set.specs.Quorums.{IsQuorum, IsFirstQuorumAfter};
 ghost use Rattle.s39_set.specs.ShareSet.{IsShareSet};
 ghost use Rattle.s39_backup.specs.Outcome.{AreParams, IsOutcome};
 ghost use Rattle.s39_drilling.specs.Drill.{IsNext, IsUndrilled, StartsAt, IsDrillOutput, DrillsCreated, WritesDrill};
 ghost use Rattle.s39_drilling.specs.Drill.{in_bytes, mismatch_in, mismatch_text, outcome_text, quorum_line, last_line};
+ghost use Rattle.s39_drilling.specs.Watching.{SeesListing, WritesFirst};
 ghost use Rattle.s39_input.specs.declared.output.TheConstants.{LINE_BYTES};
 ghost use Rattle.s39_input.specs.Fault.{fault_of};
 ghost use Rattle.s39_input.specs.Runs.{Runs};
 
 use crate::laws::{created_backups_drill, drill_laws};
+use crate::watch::{Unwatched, Watch};
 use s39_backup::{Memo, Mismatch, combine_quorum, params_of};
 use s39_input::{
     Counting, DeviceFailure, Fault, Line, Refusal, SecretForm, WriteFailed, checked_set,
     is_unexpected, push_field, push_names, push_secret, push_text, write_text,
 };
 use s39_kdf::Bytes;
-use s39_set::laws::listings_join;
+use s39_set::laws::{listings_join, one_listing};
 use s39_set::{Looks, NotAQuorum, Quorum, SetLack, ShareSet, first, next_after};
 use std::io::{Read, Write};
 
@@ -130,7 +133,8 @@ pub fn run_drill<R: Read, W: Write>(
     created_backups_drill();
     let set = checked_set(passphrase, input)?;
     let start = start_of(&set, after)?;
-    Ok(list_from(form, &set, start, passphrase, limit, output)?)
+    let watch = &mut Unwatched;
+    Ok(list_from(form, &set, start, passphrase, limit, output, watch)?)
 }
 
 /// The quorum at which a drill of a set starts: the one after the given quorum, or the first one if none is given. It is
@@ -158,7 +162,8 @@ pub fn start_of(set: &ShareSet, after: Option<&Quorum>) -> Result<Option<Quorum>
 }
 
 /// Tries the quorums of a set from `start` on, which `start_of` gives, and writes their lines and the last line, as
-/// `run_drill` does for the set of its input. If `start` is `None`, only the last line is written.
+/// `run_drill` does for the set of its input. If `start` is `None`, only the last line is written. Each time that the line of
+/// a quorum is written, `watch` is told how many are.
 ///
 /// If a write fails or takes no byte, a beginning of the lines is written. The caller passes a printable passphrase and a
 /// `limit` of at least 1, and keeps `failures()` below `u64::MAX`.
@@ -171,50 +176,64 @@ pub fn start_of(set: &ShareSet, after: Option<&Quorum>) -> Result<Option<Quorum>
 /// let start = start_of(&set, None)?;
 /// let mut text = Vec::new(rt.alloc());
 /// let mut output = Counting::new(&mut text);
-/// let done = list_from(SecretForm::Fingerprint, &set, start, b"TREZOR", 1000, &mut output)?;
+/// let form = SecretForm::Fingerprint;
+/// let done = list_from(form, &set, start, b"TREZOR", 1000, &mut output, &mut Unwatched)?;
 /// assert_eq!(rt; done.mismatches, 0);
 /// assert_eq!(rt; text.as_slice(), b"0.0 df41d8fe\nend\n".as_slice());
 /// ```
-pub fn list_from<W: Write>(
+pub fn list_from<W: Write, P: Watch>(
     form: SecretForm,
     set: &ShareSet,
     start: Option<Quorum>,
     passphrase: &[u8],
     limit: u32,
     output: &mut Counting<W>,
+    watch: &mut P,
 ) -> Result<Done, WriteFailed>
     requires is_set { IsShareSet set.now }
     requires quorum { IfSome start (IsQuorum set.now) }
     requires printable { All IsPrintable passphrase.now }
     requires some { 1 ≤ limit }
     requires writable { output.old.failures < u64.MAX }
-    ensures { (after : Option Names) → IsNext set.now after start
+    ensures lines { (after : Option Names) → IsNext set.now after start
         → WritesDrill W.contents output.old form set.now passphrase.now after limit result output.new }
+    ensures seen { (after : Option Names) (listed : List Names) → IsNext set.now after start
+        → IsListing set.now after limit listed
+        → SeesListing P.sees
+        (WritesFirst W.contents output.old output.new form set.now passphrase.now)
+        listed result watch.old watch.new }
 {
     listings_join();
+    one_listing();
     let Some(quorum) = start else {
         write_text(output, last_line(None).as_slice())?;
         return Ok(Done { mismatches: 0 });
     };
-    write_drill(form, set, quorum, passphrase, limit, output)
+    write_drill(form, set, quorum, passphrase, limit, output, watch)
 }
 
-/// Writes the lines of a drill that starts at this quorum, the last line too.
-fn write_drill<W: Write>(
+/// Writes the lines of a drill that starts at this quorum, the last line too, and tells how many quorums are listed.
+fn write_drill<W: Write, P: Watch>(
     form: SecretForm,
     set: &ShareSet,
     start: Quorum,
     passphrase: &[u8],
     limit: u32,
     output: &mut Counting<W>,
+    watch: &mut P,
 ) -> Result<Done, WriteFailed>
     requires is_set { IsShareSet set.now }
     requires quorum { IsQuorum set.now start }
     requires printable { All IsPrintable passphrase.now }
     requires some { 1 ≤ limit }
     requires writable { output.old.failures < u64.MAX }
-    ensures { (after : Option Names) → IsFirstQuorumAfter set.now after start
+    ensures lines { (after : Option Names) → IsFirstQuorumAfter set.now after start
         → WritesDrill W.contents output.old form set.now passphrase.now after limit result output.new }
+    ensures seen { (after : Option Names) (listed : List Names)
+        → IsFirstQuorumAfter set.now after start → IsListing set.now after limit listed
+        → SeesListing P.sees
+        (WritesFirst W.contents output.old output.new form set.now passphrase.now)
+        listed result watch.old watch.new }
 {
     drill_laws();
     let mut memo = Memo::new(passphrase, params_of(set, &start));
@@ -227,6 +246,7 @@ fn write_drill<W: Write>(
         write_text(output, quorum_line(form, &quorum, &outcome).as_slice())?;
         mismatches += mismatch_in(form, &outcome);
         left -= 1;
+        watch.listed(limit - left);
         let next = following(set, &quorum, &mut looks);
         if left == 0 || next.is_none() {
             let last = last_line(next.is_some().then_some(&quorum));

@@ -12,8 +12,9 @@ mod vectors;
 pub use backup::{FIVE, QUORUMS_OF_FIVE, RANDOM, SECRET, create, drilled, lines};
 pub use forgery::{NoForgery, forged};
 pub use runs::{
-    DRILL, RECOVER, REPAIR, Run, SHOW, WRITE_FAILED_LINE, expect_bytes, expect_flushed,
-    expect_over, expect_run, expect_told, program, program_at_terminal, run_on, run_over,
+    ALL_TERMINALS, DRILL, NO_TERMINAL, RECOVER, REPAIR, Run, SHOW, WRITE_FAILED_LINE, expect_bytes,
+    expect_flushed, expect_over, expect_run, expect_told, program, program_at_terminal, run_on,
+    run_over,
 };
 pub use vectors::{
     EXTENDABLE_ONE_OF_ONE, EXTENDABLE_ONE_OF_ONE_SHOWN, EXTENDABLE_TWO_WORDS_EXCHANGED,

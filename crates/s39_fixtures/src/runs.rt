@@ -2,7 +2,7 @@
 
 use crate::devices::Flushing;
 use crate::shelves::{Held, NoFiles};
-use s39_cli::{Destination, Messages, Source};
+use s39_cli::{Destination, Messages, Source, Terminals, Unwatched};
 use std::alloc::Global;
 use std::io::{Read, Write};
 use std::test::Fail;
@@ -17,6 +17,20 @@ pub const DRILL: [&str; 4] = ["shamir", "drill", "--passphrase", "TREZOR"];
 
 /// The message when a write fails; the exit status is 3.
 pub const WRITE_FAILED_LINE: &str = "shamir: 73 write failed\n";
+
+/// No device is a terminal.
+pub const NO_TERMINAL: Terminals = Terminals {
+    source: Source::Elsewhere,
+    destination: Destination::Elsewhere,
+    errors: Destination::Elsewhere,
+};
+
+/// Each device is a terminal.
+pub const ALL_TERMINALS: Terminals = Terminals {
+    source: Source::Terminal,
+    destination: Destination::Terminal,
+    errors: Destination::Terminal,
+};
 
 /// Runs the program without a terminal, and returns its exit status.
 pub fn program<R: Read + Drop, W: Write + Drop, E: Write + Drop>(
@@ -34,8 +48,8 @@ pub fn program<R: Read + Drop, W: Write + Drop, E: Write + Drop>(
         input,
         output,
         &mut errors,
-        Source::Elsewhere,
-        Destination::Elsewhere,
+        &mut Unwatched,
+        NO_TERMINAL,
     )
     .status()
 }
@@ -56,8 +70,8 @@ pub fn program_at_terminal<R: Read + Drop, W: Write + Drop, E: Write + Drop>(
         input,
         output,
         &mut errors,
-        Source::Terminal,
-        Destination::Terminal,
+        &mut Unwatched,
+        ALL_TERMINALS,
     )
     .status()
 }
@@ -93,8 +107,8 @@ pub fn run_over(files: &[(&str, &[u8])], alloc: Global, words: &[&str], input: &
         input,
         &mut written,
         &mut Messages::new(&mut told),
-        Source::Elsewhere,
-        Destination::Elsewhere,
+        &mut Unwatched,
+        NO_TERMINAL,
     )
     .status();
     Run {

@@ -1,5 +1,8 @@
 -- The set of an input.
 pub mod OneSet
+pub mod Mates
+pub mod Judgements
+pub mod MateLines
 pub mod Collected
 pub mod WithShare
 pub mod Refusals

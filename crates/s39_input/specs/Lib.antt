@@ -9,6 +9,7 @@ pub mod Output
 pub mod Emission
 pub mod Accepted
 pub mod Refused
+pub mod Judging
 pub mod Collecting
 pub mod SecretForm
 pub mod EachLine

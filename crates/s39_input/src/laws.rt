@@ -1,5 +1,5 @@
 //! Facts about the definitions. Each is the contract of a function that does nothing.
-ghost use Rattle.std.specs.Prelude.{◌≡◌, ◌≢◌, ◌<◌, ◌≤◌, ◌⊎◌, ℕ, length, List, All, Contains, Bool, true, false, Result, Ok, Err, IfOk, Option, Some, None};
+ghost use Rattle.std.specs.Prelude.{◌≡◌, ◌≢◌, ◌<◌, ◌≤◌, ◌⊎◌, ◌↔◌, ℕ, length, List, [], ◌∷◌, ◌++◌, All, Contains, Bool, true, false, Result, Ok, Err, IfOk, Option, Some, None};
 ghost use Rattle.s39_kdf.specs.Causes.{fingerprint_cause};
 ghost use Rattle.s39_words.specs.declared.ShareFields.{ShareFields};
 ghost use Rattle.s39_words.specs.Reading.{Reads};
@@ -17,6 +17,8 @@ ghost use Rattle.s39_input.specs.declared.fault.Stop.{Stop};
 ghost use Rattle.s39_input.specs.declared.fault.Stop.TheVariants.{AtLine, ReadFailed};
 ghost use Rattle.s39_input.specs.declared.lines.TheConstants.{MAX_LINE_BYTES};
 ghost use Rattle.s39_input.specs.declared.fault.Fault.{Fault};
+ghost use Rattle.s39_input.specs.declared.judging.Judged.{Judged};
+ghost use Rattle.s39_input.specs.Judging.{judgement, mate_shares, mates};
 ghost use Rattle.s39_input.specs.Fault.{cause_of};
 ghost use Rattle.s39_input.specs.Runs.{ReadsAreFew};
 ghost use Rattle.s39_input.specs.Show.{IsShowOutput};
@@ -147,6 +149,32 @@ pub fn written_mnemonics_are_of_the_backup()
 {
     printed_forms();
 }
+
+/// If a mnemonic is judged, its set is a share set. It has exactly the shares of the lines that have its identifier, and the
+/// mnemonic's own, each once, in the order of their names. The mnemonic's share is told to be there again exactly if it is
+/// among those of the lines.
+pub fn judged_sets_have_their_shares()
+    ensures is_set { (lines line : List ℕ) (judged : Judged) → judgement lines line ≡ Ok judged
+        → IsShareSet judged.set }
+    ensures shares { (lines line : List ℕ) (judged : Judged) → judgement lines line ≡ Ok judged
+        → IsSetOf (judged.share ∷ mate_shares judged.share.id lines) judged.set }
+    ensures again { (lines line : List ℕ) (judged : Judged) → judgement lines line ≡ Ok judged
+        → (judged.again ≡ true ↔ Contains (mate_shares judged.share.id lines) judged.share) }
+{}
+
+/// Lines whose shares all have one identifier are read as the set of the shares with this identifier.
+pub fn lines_of_one_backup_are_read_as_mates()
+    ensures { (id : ℕ) (lines : List ℕ)
+        → All (λ line. (share : ShareFields) → Holds line (Some share) → share.id ≡ id) (lines_of (whole lines))
+        → IsReadAs (whole lines) (mates id lines) }
+{}
+
+/// If a judged mnemonic is taken as a line behind the others, the shares with its identifier then are the set of the judgement.
+pub fn judged_mnemonics_are_taken()
+    ensures { (lines line : List ℕ) (judged : Judged) → judgement lines line ≡ Ok judged
+        → Holds line (Some judged.share) → lines_of (whole line) ≡ line ∷ []
+        → mates judged.share.id (lines ++ 10 ∷ line) ≡ Ok judged.set }
+{}
 
 /// Every input has an output of `show`.
 pub fn some_show_output()

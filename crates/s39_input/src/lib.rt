@@ -15,6 +15,7 @@ mod each_line;
 mod emission;
 mod fault;
 mod hexadecimal;
+mod judging;
 pub mod laws;
 mod lines;
 mod output;
@@ -28,9 +29,11 @@ pub use device::Counting;
 pub use emission::{put_lines, write_lines};
 pub use fault::{DeviceFailure, Fault, LineRefusal, Refusal, RefusedLine, Stop};
 pub use hexadecimal::{read_hex, write_hex};
+pub use judging::{Judged, judge};
 pub use lines::PIECE;
 pub use output::{
-    LINE_BYTES, Line, WriteFailed, line_of, push_field, push_names, push_text, write_text,
+    LINE_BYTES, Line, WriteFailed, line_of, push_field, push_names, push_number, push_text,
+    write_text,
 };
 pub use repair::{REPAIRED_BYTES, RepairedLines, lines_of_repaired, run_repair};
 pub use s39_kdf::SecretForm;

@@ -45,8 +45,8 @@ pub fn line_of(text: &[u8]) -> Line
     line
 }
 
-/// Appends a number in decimal.
-fn push_number(line: &mut Line, number: u16)
+/// Appends a number in decimal. The caller makes sure that there is room for its digits.
+pub fn push_number(line: &mut Line, number: u64)
     requires { length line.old.items + length (decimal number) ≤ LINE_BYTES }
     ensures { line.new.items ≡ line.old.items ++ decimal number }
 {
@@ -64,7 +64,7 @@ pub fn push_field(line: &mut Line, name: &[u8], number: u16)
     ensures room { length line.new.items ≤ length line.old.items + length name.now + 5 }
 {
     push_text(line, name);
-    push_number(line, number);
+    push_number(line, u64::from(number));
 }
 
 /// Appends the name of a share: its group and its member index, with a point between them.
@@ -75,9 +75,9 @@ fn push_name(line: &mut Line, name: (u8, u8))
     ensures text { line.new.items ≡ line.old.items ++ name_text name }
     ensures room { length line.new.items + 1 ≤ length line.old.items + NAME_BYTES }
 {
-    push_number(line, u16::from(name.0));
+    push_number(line, u64::from(name.0));
     line.push(b'.');
-    push_number(line, u16::from(name.1));
+    push_number(line, u64::from(name.1));
 }
 
 /// Appends names of shares, joined by plus signs. The caller makes sure that each group and each member index is below

@@ -1,10 +1,8 @@
 -- A recovery is the decryption of an encrypted secret. Each of these two steps has one result.
-use Rattle.std.proofs.Common.{◌≡◌, ◌⊎◌, ℕ, ◌%◌, List, [], length, refl, sym, ap, ◌∙◌, subst, subst₂, inl, inr}
+use Rattle.std.proofs.Common.{◌≡◌, ◌⊎◌, ℕ, ◌%◌, List, [], length, refl, sym, ap, ◌∙◌, subst, inl, inr}
 use Rattle.std.proofs.Common.{None, Option, Result, Ok, Err, arith}
 use Rattle.std.proofs.lemmas.Bool.{cases_lt}
 use Rattle.std.specs.Result.{IfOk}
-use Rattle.s39_kdf.specs.declared.limits.BadPassphrase.{BadPassphrase}
-use Rattle.s39_kdf.specs.declared.limits.BadSecretLength.{BadSecretLength}
 use Rattle.s39_kdf.specs.declared.noted.NotedFingerprint.{NotedFingerprint}
 use Rattle.s39_kdf.specs.declared.params.Params.{Params}
 use Rattle.s39_kdf.specs.declared.secret_form.SecretForm.{SecretForm}
@@ -24,7 +22,7 @@ use Rattle.s39_backup.specs.Outcome.{AreParams, IsOutcome}
 use Rattle.s39_backup.proofs.OneRecovery.{one_params}
 use Rattle.s39_input.specs.declared.fault.LineRefusal.{LineRefusal}
 use Rattle.s39_input.specs.declared.fault.Stop.{Stop}
-use Rattle.s39_input.specs.declared.fault.Refusal.TheVariants.{Lack, DigestMismatch, Passphrase, SecretLength}
+use Rattle.s39_input.specs.declared.fault.Refusal.TheVariants.{Lack, DigestMismatch, Passphrase}
 use Rattle.s39_input.specs.declared.fault.Fault.{Fault}
 use Rattle.s39_input.specs.Input.{Input}
 use Rattle.s39_input.specs.Fault.{fault_of, fault_of_stop}

@@ -1,5 +1,5 @@
 -- The exponent of a set.
-use Rattle.std.proofs.Common.{◌≡◌, ◌⊎◌, ℕ, ◌≤◌, ◌<◌, List, [], ◌∷◌, All, None, Option, Result, Ok, Err, refl, sym, ◌∙◌, inl, inr, arith}
+use Rattle.std.proofs.Common.{◌≡◌, ◌⊎◌, ◌≤◌, ◌<◌, List, [], ◌∷◌, All, None, Option, Ok, refl, sym, ◌∙◌, arith}
 use Rattle.std.proofs.lemmas.List.Elements.{All-head}
 use Rattle.s39_kdf.specs.declared.params.Params.{Params}
 use Rattle.s39_words.specs.declared.ShareFields.{ShareFields}
@@ -11,7 +11,6 @@ use Rattle.s39_set.specs.Quorums.{IsFirstQuorumAfter}
 use Rattle.s39_set.specs.Lack.{IsLack}
 use Rattle.s39_set.specs.SetFacts.{SetsHaveOneLack, SetsWithQuorumsHaveNone}
 use Rattle.s39_backup.specs.Outcome.{AreParams}
-use Rattle.s39_input.specs.declared.fault.Fault.{Fault}
 use Rattle.s39_input.proofs.Steps.{AtMostOne, AtLeastOne, then_once, then_some}
 use Rattle.s39_reading.specs.Exponent.{exponent_of, IsExponent}
 use Rattle.s39_reading.specs.Recover.{IsLeastOrLack}

@@ -44,6 +44,10 @@ abbrev pub status_written : List ShareFields → Option Status → List ℕ × R
 status_written set None = nothing_for (fault_of (Lack NoShares))
 status_written set (Some status) = (status_text set status, Ok status)
 
+-- `status` writes this text for lines with the shares of this set, and gives this answer
+abbrev pub IsStatusOf : List ShareFields → List ℕ → Result Status Fault → Type 0
+IsStatusOf set text answer = (text, answer) ≡ status_written set (status_of set)
+
 -- `status` writes this text for the input, and gives this answer. It judges the lines of the input first, and then the
 -- set of their shares.
 abbrev pub IsStatusOutput : Input → List ℕ → Result Status Fault → Type 0

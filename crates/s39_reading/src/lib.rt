@@ -1,6 +1,6 @@
 //! The commands `recover` and `status` of the program `shamir`, over readers and writers: `run_recover` and
-//! `run_status`. `recover_secret` and `status_lines` do the same for lines in memory, and `recover_set` recovers the secret
-//! of a set. `exponent_of` gives the iteration exponent of a set. `encrypted_in` gives the encrypted secret of lines, and
+//! `run_status`. `recover_secret` and `status_lines` do the same for lines in memory, `recover_set` and `set_status` for a set.
+//! `exponent_of` gives the iteration exponent of a set. `encrypted_in` gives the encrypted secret of lines, and
 //! `decrypt_secret` decrypts it.
 //!
 //! The examples use `Counting` and `SecretForm` of `s39_input` too. In them `rt` is the runtime, or a reference to it.
@@ -17,4 +17,4 @@ mod status;
 pub use encrypted::{EncryptedSecret, decrypt_secret, encrypted_in};
 pub use exponent::exponent_of;
 pub use recover::{recover_secret, recover_set, run_recover};
-pub use status::{WrittenStatus, run_status, status_lines};
+pub use status::{WrittenStatus, run_status, set_status, status_lines};

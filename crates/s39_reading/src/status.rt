@@ -6,7 +6,8 @@ ghost use Rattle.s39_set.specs.Status.{group_status_of};
 ghost use Rattle.s39_input.specs.Input.{whole};
 ghost use Rattle.s39_input.specs.Runs.{Runs};
 ghost use Rattle.s39_reading.specs.Slices.{PutsStatus};
-ghost use Rattle.s39_reading.specs.Status.{IsStatusOutput, first_line, group_line, group_text, lines_of_status, status_text};
+ghost use Rattle.s39_input.specs.Accepted.{IsReadAs};
+ghost use Rattle.s39_reading.specs.Status.{IsStatusOf, IsStatusOutput, first_line, group_line, group_text, lines_of_status, status_text};
 
 use s39_input::{
     Counting, DeviceFailure, Fault, Line, Refusal, Unwritten, push_field, push_names, put_lines,
@@ -96,22 +97,41 @@ pub struct WrittenStatus {
 pub fn status_lines(lines: &[u8], text: &mut [u8]) -> Result<WrittenStatus, Unwritten>
     ensures { PutsStatus (IsStatusOutput (whole lines.now)) text.old text.new result }
 {
-    let (set, status) = status_in(lines)?;
-    let written = put_lines(text, LINES, &|index| line_at(&set, status, index))?;
+    let set = shares_in(lines)?;
+    set_status(&set, text)
+}
+
+/// Puts the text that `run_status` writes for lines with these shares at the front of `text`. It returns the length of that
+/// text in bytes, and the numbers of its first line. The bytes of `text` after it are unchanged.
+///
+/// The first error that applies is returned, and then `text` is unchanged: `Lack` if the set has no share, or `TooShort`, with
+/// the number of bytes needed, if the text doesn't fit.
+///
+/// ```rust
+/// let line =
+///     b"academic aluminum beard leader chest elite grant group club deploy increase divorce \
+///     puny cylinder romp frequent crush ruler erode bucket\n";
+/// let set = checked_set_in(b"", line)?;
+/// let mut text = [0; 100];
+/// assert_eq!(rt; set_status(&set, &mut text)?.written, 41);
+/// assert!(rt; text.starts_with(b"groups 1 of 2\ngroup 1 members 1 of 1 1.0\n"));
+/// ```
+pub fn set_status(set: &ShareSet, text: &mut [u8]) -> Result<WrittenStatus, Unwritten>
+    ensures { PutsStatus (IsStatusOf set.now) text.old text.new result }
+{
+    let Some(status) = status_of(set) else {
+        return Err(Unwritten::from(Fault::from(SetLack::NoShares)));
+    };
+    let written = put_lines(text, LINES, &|index| line_at(set, status, index))?;
     Ok(WrittenStatus { written, status })
 }
 
-/// The set of the shares of lines in memory, and its status.
-fn status_in(lines: &[u8]) -> Result<(ShareSet, Status), Fault>
-    ensures found { IfOk result (λ found.
-        IsStatusOutput (whole lines.now) (status_text found.0 found.1) (Ok found.1)) }
+/// The set of the shares of lines in memory.
+fn shares_in(lines: &[u8]) -> Result<ShareSet, Fault>
+    ensures accepted { IfOk result (λ set. IsReadAs (whole lines.now) (Ok set)) }
     ensures refused { IfErr result (λ fault. IsStatusOutput (whole lines.now) [] (Err fault)) }
 {
-    let set = set_in(lines)?;
-    let Some(status) = status_of(&set) else {
-        return Err(Fault::from(SetLack::NoShares));
-    };
-    Ok((set, status))
+    Ok(set_in(lines)?)
 }
 
 /// The line at an index: the first line, or what is written for a group.

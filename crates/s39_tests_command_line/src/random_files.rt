@@ -2,8 +2,9 @@
 
 use crate::command_line::{NONE, call, expect_calls, expect_refusals};
 use crate::value_files::expect_bad_values;
-use s39_cli::{Destination, Messages, Source, program};
+use s39_cli::{Messages, Unwatched, program};
 use s39_command::{BadValues, Call, Job};
+use s39_fixtures::NO_TERMINAL;
 use s39_fixtures::shelves::Halted;
 use std::io::ErrorKind;
 
@@ -143,8 +144,8 @@ fn tries_only_an_interrupted_read_again(rt: HostRuntime) {
             SHARE.as_bytes(),
             &mut written,
             &mut Messages::new(Vec::new(alloc)),
-            Source::Elsewhere,
-            Destination::Elsewhere,
+            &mut Unwatched,
+            NO_TERMINAL,
         )
         .status();
         assert_eq!(rt; status, wanted);

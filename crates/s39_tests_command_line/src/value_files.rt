@@ -1,10 +1,10 @@
 //! The files of values in the words of a command line.
 
 use crate::command_line::{NONE, expect_calls, expect_refusals, passphrase, secret};
-use s39_cli::{Destination, Messages, Source, program};
+use s39_cli::{Messages, Unwatched, program};
 use s39_command::{BadValues, Call, Job, NoJob, Texts, read_words};
 use s39_fixtures::shelves::Halted;
-use s39_fixtures::{ONE_OF_ONE, ONE_OF_ONE_SECRET, expect_over, run_on};
+use s39_fixtures::{NO_TERMINAL, ONE_OF_ONE, ONE_OF_ONE_SECRET, expect_over, run_on};
 use s39_input::SecretForm;
 use std::alloc::Global;
 use std::io::ErrorKind;
@@ -400,8 +400,8 @@ fn tries_only_an_interrupted_read_of_a_file_again(rt: HostRuntime) {
             ONE_OF_ONE.as_bytes(),
             &mut written,
             &mut Messages::new(Vec::new(alloc)),
-            Source::Elsewhere,
-            Destination::Elsewhere,
+            &mut Unwatched,
+            NO_TERMINAL,
         )
         .status();
         assert_eq!(rt; status, wanted);

@@ -8,6 +8,8 @@ mod failures;
 #[cfg(test)]
 mod hands;
 #[cfg(test)]
+mod progress;
+#[cfg(test)]
 mod said;
 #[cfg(test)]
 mod terminal;

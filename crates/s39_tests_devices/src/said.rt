@@ -1,11 +1,11 @@
 //! What a person at a terminal is told, and that a message is one write.
 
-use s39_cli::{Destination, Messages, Source, program};
+use s39_cli::{Destination, DrillProgress, Messages, Source, Terminals, Unwatched, Watch, program};
 use s39_fixtures::devices::{FailingAtFirst, Full, Interrupted};
 use s39_fixtures::shelves::Held;
 use s39_fixtures::{
-    FIVE, ONE_OF_ONE, ONE_OF_ONE_BAD_CHECKSUM, TWO_NEEDED_MEMBER_0, TWO_NEEDED_MEMBER_2, forged,
-    lines,
+    FIVE, NO_TERMINAL, ONE_OF_ONE, ONE_OF_ONE_BAD_CHECKSUM, TWO_NEEDED_MEMBER_0,
+    TWO_NEEDED_MEMBER_2, forged, lines,
 };
 use std::alloc::Global;
 use std::io::{ErrorKind, Write};
@@ -31,23 +31,35 @@ const NEW_SECRET: &str =
 const NO_SECRET: &str =
     "error: one of --master-secret <HEX> and --master-secret-file <FILE> is required\n\nFor more information, try '--help'.\n";
 
-/// Where the input comes from, and where the output goes.
-type Place = (Source, Destination);
+/// Only the input comes from a terminal.
+const TYPED: Terminals = Terminals {
+    source: Source::Terminal,
+    destination: Destination::Elsewhere,
+    errors: Destination::Elsewhere,
+};
 
-const TYPED: Place = (Source::Terminal, Destination::Elsewhere);
+/// Only the output goes to a terminal.
+const SEEN: Terminals = Terminals {
+    source: Source::Elsewhere,
+    destination: Destination::Terminal,
+    errors: Destination::Elsewhere,
+};
 
-const SEEN: Place = (Source::Elsewhere, Destination::Terminal);
+/// Only messages go to a terminal.
+const TOLD: Terminals = Terminals {
+    source: Source::Elsewhere,
+    destination: Destination::Elsewhere,
+    errors: Destination::Terminal,
+};
 
-const PIPED: Place = (Source::Elsewhere, Destination::Elsewhere);
-
-/// Runs the words at this place over a file `f`, and returns the status.
+/// Runs the words at these terminals over a file `f`, and returns the status.
 fn run<W: Write + Drop, E: Write + Drop>(
     alloc: Global,
     words: &[&str],
     input: &str,
     output: W,
     errors: E,
-    (source, destination): Place,
+    terminals: Terminals,
 ) -> u8 {
     let shelf = Held {
         files: &[("f", b"TREZOR\n")],
@@ -61,22 +73,22 @@ fn run<W: Write + Drop, E: Write + Drop>(
         input,
         output,
         errors,
-        source,
-        destination,
+        &mut Unwatched,
+        terminals,
     )
     .status()
 }
 
-/// The words at this place say these lines, one after another, with this status.
+/// The words at these terminals say these lines, one after another, with this status.
 fn expect_said(
     rt: &impl Abort,
     alloc: Global,
-    (words, input, place): (&[&str], &str, Place),
+    (words, input, terminals): (&[&str], &str, Terminals),
     wanted: &[&str],
     status: u8,
 ) -> Result<(), Fail> {
     let mut said = Vec::new(alloc);
-    let answer = run(alloc, words, input, Vec::new(alloc), &mut said, place);
+    let answer = run(alloc, words, input, Vec::new(alloc), &mut said, terminals);
     let mut all = String::new(alloc);
     for line in wanted {
         all.push_str(line)?;
@@ -101,7 +113,8 @@ fn asks_for_mnemonics_at_a_terminal(rt: HostRuntime) -> Result<(), Fail> {
     for (words, told) in commands {
         expect_said(&rt, alloc, (words, &one, TYPED), &[TYPING, told], 0)?;
         expect_said(&rt, alloc, (words, &one, SEEN), &[told], 0)?;
-        expect_said(&rt, alloc, (words, &one, PIPED), &[], 0)?;
+        expect_said(&rt, alloc, (words, &one, TOLD), &[told], 0)?;
+        expect_said(&rt, alloc, (words, &one, NO_TERMINAL), &[], 0)?;
     }
     Ok(())
 }
@@ -157,7 +170,8 @@ fn tells_that_no_passphrase_was_used(rt: HostRuntime) -> Result<(), Fail> {
         let bare = ["shamir", command];
         expect_said(&rt, alloc, (&bare, &one, TYPED), &[TYPING, count, BARE], 0)?;
         expect_said(&rt, alloc, (&bare, &one, SEEN), &[count, BARE], 0)?;
-        expect_said(&rt, alloc, (&bare, &one, PIPED), &[], 0)?;
+        expect_said(&rt, alloc, (&bare, &one, TOLD), &[count, BARE], 0)?;
+        expect_said(&rt, alloc, (&bare, &one, NO_TERMINAL), &[], 0)?;
         let told = ["shamir", command, "--fingerprint"];
         expect_said(&rt, alloc, (&told, &one, SEEN), &[count, BARE], 0)?;
         for option in [
@@ -196,7 +210,7 @@ fn tells_that_no_passphrase_was_used_after_mismatches(rt: HostRuntime) -> Result
     )?;
     let drill = ["shamir", "drill"];
     expect_said(&rt, alloc, (&drill, &changed, SEEN), &[ONE, BARE], 1)?;
-    expect_said(&rt, alloc, (&drill, &changed, PIPED), &[], 1)?;
+    expect_said(&rt, alloc, (&drill, &changed, NO_TERMINAL), &[], 1)?;
     Ok(())
 }
 
@@ -221,10 +235,11 @@ fn tells_how_many_quorums_a_set_has(rt: HostRuntime) -> Result<(), Fail> {
     ];
     for (words, told, status) in cases {
         expect_said(&rt, alloc, (words, &five, SEEN), &[told], status)?;
+        expect_said(&rt, alloc, (words, &five, TOLD), &[told], status)?;
         expect_said(&rt, alloc, (words, &five, TYPED), &[TYPING, told], status)?;
     }
     let quiet = ["shamir", "drill", "--passphrase="];
-    expect_said(&rt, alloc, (&quiet, &five, PIPED), &[], 0)?;
+    expect_said(&rt, alloc, (&quiet, &five, NO_TERMINAL), &[], 0)?;
     Ok(())
 }
 
@@ -263,11 +278,12 @@ fn tells_a_person_what_a_plan_and_a_secret_are(rt: HostRuntime) -> Result<(), Fa
     for (words, told, more, status) in cases {
         expect_said(&rt, alloc, (words, "", TYPED), &[told, more], status)?;
         expect_said(&rt, alloc, (words, "", SEEN), &[told, more], status)?;
-        expect_said(&rt, alloc, (words, "", PIPED), &[told], status)?;
+        expect_said(&rt, alloc, (words, "", TOLD), &[told, more], status)?;
+        expect_said(&rt, alloc, (words, "", NO_TERMINAL), &[told], status)?;
     }
     let create = ["shamir", "create", "x", "--master-secret=00"];
     expect_said(&rt, alloc, (&create, "", SEEN), &[bad, PLAN_FORM], 1)?;
-    expect_said(&rt, alloc, (&create, "", PIPED), &[bad], 1)?;
+    expect_said(&rt, alloc, (&create, "", NO_TERMINAL), &[bad], 1)?;
     Ok(())
 }
 
@@ -278,6 +294,7 @@ fn tells_that_a_typed_passphrase_is_shown(rt: HostRuntime) -> Result<(), Fail> {
     let words = ["shamir", "recover", "--passphrase-file=-"];
     expect_said(&rt, alloc, (&words, &typed, TYPED), &[SHOWN, TYPING], 0)?;
     expect_said(&rt, alloc, (&words, &typed, SEEN), &[], 0)?;
+    expect_said(&rt, alloc, (&words, &typed, TOLD), &[], 0)?;
     // A value that isn't printable, or too long.
     let long = "x".repeat(alloc, 1025)?;
     let cases: [(&str, &str, u8); 2] = [
@@ -324,7 +341,13 @@ fn says_a_name_up_to_the_longest_of_a_path(rt: HostRuntime) -> Result<(), Fail> 
         let words = ["shamir", "recover", "--passphrase-file", &name];
         let cut = "n".repeat(alloc, told)?;
         let message = format!(in alloc; "shamir: {cut}{dots}: entity not found\n")?;
-        expect_said(&rt, alloc, (&words, "", PIPED), &[message.as_str()], 3)?;
+        expect_said(
+            &rt,
+            alloc,
+            (&words, "", NO_TERMINAL),
+            &[message.as_str()],
+            3,
+        )?;
     }
     Ok(())
 }
@@ -347,7 +370,14 @@ fn says_a_refusal_in_one_write(rt: HostRuntime) -> Result<(), Fail> {
     ];
     for (words, input) in cases {
         let mut errors = Interrupted::new(alloc, 0);
-        let status = run(alloc, words, input, Vec::new(alloc), &mut errors, PIPED);
+        let status = run(
+            alloc,
+            words,
+            input,
+            Vec::new(alloc),
+            &mut errors,
+            NO_TERMINAL,
+        );
         assert!(rt; status != 0 && errors.calls == 1, "{words:?}");
         assert!(rt; errors.bytes.as_slice().ends_with(b"\n"), "{words:?}");
     }

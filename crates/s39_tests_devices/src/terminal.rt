@@ -1,14 +1,23 @@
 //! A terminal: what is typed behind a fault is dropped, and random bytes aren't typed.
 
-use s39_cli::{Destination, Messages, Watched, program, with_rest_dropped};
+use s39_cli::{Destination, Messages, Terminals, Unwatched, Watched, program, with_rest_dropped};
 use s39_fixtures::devices::{Full, Halting, Source};
 use s39_fixtures::shelves::NoFiles;
-use s39_fixtures::{ONE_OF_ONE, RECOVER, SECRET, TWO_NEEDED_MEMBER_2, create, lines};
+use s39_fixtures::{
+    ALL_TERMINALS, ONE_OF_ONE, RECOVER, SECRET, TWO_NEEDED_MEMBER_2, create, lines,
+};
 use std::alloc::Global;
 use std::process::Abort;
 use std::test::Fail;
 
 const ALL: usize = usize::MAX;
+
+/// Only the input comes from a terminal.
+const TYPED: Terminals = Terminals {
+    source: s39_cli::Source::Terminal,
+    destination: Destination::Elsewhere,
+    errors: Destination::Elsewhere,
+};
 
 /// Said before mnemonics are typed.
 const TYPING: &str = "shamir: type a mnemonic on each line, then press Ctrl-D on an empty line\n";
@@ -32,8 +41,8 @@ fn expect_reads(
         Watched::new(&mut device),
         Vec::new(alloc),
         errors,
-        s39_cli::Source::Terminal,
-        Destination::Elsewhere,
+        &mut Unwatched,
+        TYPED,
     );
     let answered = with_rest_dropped(ended, errors).status();
     assert_eq!(rt; (answered, device.calls), (status, calls), "{words:?}");
@@ -110,8 +119,8 @@ fn drops_what_is_typed_behind_a_failed_write(rt: HostRuntime) -> Result<(), Fail
         Watched::new(&mut device),
         Full,
         errors,
-        s39_cli::Source::Terminal,
-        Destination::Terminal,
+        &mut Unwatched,
+        ALL_TERMINALS,
     );
     let status = with_rest_dropped(ended, errors).status();
     assert_eq!(rt; (status, device.calls), (3, 3));
@@ -138,8 +147,8 @@ fn drops_what_is_typed_after_an_interruption(rt: HostRuntime) -> Result<(), Fail
         Watched::new(&mut device),
         Vec::new(alloc),
         errors,
-        s39_cli::Source::Terminal,
-        Destination::Elsewhere,
+        &mut Unwatched,
+        TYPED,
     );
     let status = with_rest_dropped(ended, errors).status();
     // Each piece takes two calls, the first of which is interrupted, except for the first piece. The last call gives no byte.

@@ -1,6 +1,6 @@
 //! The examples of the doc comments of `s39_drilling`, line for line. The values come from published vectors, or from a plain reading of
 //! the standard in Python.
-use s39_drilling::{drill_lines, drill_set, list_from, run_drill, start_of};
+use s39_drilling::{Unwatched, drill_lines, drill_set, list_from, run_drill, start_of};
 use s39_input::{Counting, SecretForm, checked_set_in};
 use std::alloc::AllocGlobal;
 use std::process::Abort;
@@ -31,13 +31,15 @@ fn drills(rt: &(impl Abort + AllocGlobal)) -> Result<(), Fail> {
     let start = start_of(&set, None)?;
     let mut text = Vec::new(rt.alloc());
     let mut output = Counting::new(&mut text);
+    let form = SecretForm::Fingerprint;
     let done = list_from(
-        SecretForm::Fingerprint,
+        form,
         &set,
         start,
         b"TREZOR",
         1000,
         &mut output,
+        &mut Unwatched,
     )?;
     assert_eq!(rt; done.mismatches, 0);
     assert_eq!(rt; text.as_slice(), b"0.0 df41d8fe\nend\n".as_slice());

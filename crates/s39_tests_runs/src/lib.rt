@@ -8,6 +8,8 @@ mod drilling;
 #[cfg(test)]
 mod input;
 #[cfg(test)]
+mod judging;
+#[cfg(test)]
 mod reading;
 #[cfg(test)]
 mod resplit;

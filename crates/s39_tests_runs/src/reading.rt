@@ -4,7 +4,7 @@ use s39_input::{Counting, SecretForm, checked_set_in};
 use s39_kdf::{Params, parse_fingerprint};
 use s39_reading::{
     decrypt_secret, encrypted_in, exponent_of, recover_secret, recover_set, run_recover,
-    run_status, status_lines,
+    run_status, set_status, status_lines,
 };
 use std::alloc::AllocGlobal;
 use std::process::Abort;
@@ -83,6 +83,11 @@ fn statuses(rt: &(impl Abort + AllocGlobal)) -> Result<(), Fail> {
     let mut text = [0; 100];
     let answer = status_lines(line, &mut text)?;
     assert_eq!(rt; (answer.written, answer.status.is_enough()), (41, false));
+    assert!(rt; text.starts_with(b"groups 1 of 2\ngroup 1 members 1 of 1 1.0\n"));
+
+    let set = checked_set_in(b"", line)?;
+    let mut text = [0; 100];
+    assert_eq!(rt; set_status(&set, &mut text)?.written, 41);
     assert!(rt; text.starts_with(b"groups 1 of 2\ngroup 1 members 1 of 1 1.0\n"));
     Ok(())
 }

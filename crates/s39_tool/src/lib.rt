@@ -7,6 +7,6 @@ pub use s39_backup::{
     ResplitError, create, recover_by, refit, resplit,
 };
 pub use s39_creating::{run_create, run_reissue, run_resplit};
-pub use s39_drilling::{Done, run_drill};
+pub use s39_drilling::{Done, Unwatched, Watch, run_drill};
 pub use s39_input::{Counting, DeviceFailure, Fault, Refusal, SecretForm, run_repair, run_show};
 pub use s39_reading::{run_recover, run_status};

@@ -3,7 +3,8 @@
 
 use s39_clearing::clear_stack;
 use s39_cli::{
-    Destination, Messages, Source, SystemFiles, Watched, no_words, program, with_rest_dropped,
+    Destination, DrillProgress, Messages, Source, SystemFiles, Terminals, Watched, no_words,
+    program, with_rest_dropped,
 };
 use std::alloc::{AllocError, Global};
 use std::io::IsTerminal;
@@ -21,42 +22,44 @@ fn texts<'a>(alloc: Global, arguments: &'a [String]) -> Result<Vec<&'a str>, All
         .collect(alloc)
 }
 
+fn source_of(input: &impl IsTerminal) -> Source {
+    if input.is_terminal() {
+        Source::Terminal
+    } else {
+        Source::Elsewhere
+    }
+}
+
+fn destination_of(output: &impl IsTerminal) -> Destination {
+    if output.is_terminal() {
+        Destination::Terminal
+    } else {
+        Destination::Elsewhere
+    }
+}
+
 fn status(rt: &HostRuntime) -> io::Result<u8> {
     let alloc = rt.alloc();
     let arguments: Vec<String> = env::args(rt)?.collect(alloc)?;
     let words = texts(alloc, &arguments)?;
     let files = SystemFiles::new(rt);
     let (input, output) = (rt.stdin(), rt.stdout());
-    let destination = if output.is_terminal() {
-        Destination::Terminal
-    } else {
-        Destination::Elsewhere
+    let terminals = Terminals {
+        source: source_of(&input),
+        destination: destination_of(&output),
+        errors: destination_of(&rt.stderr()),
     };
     let errors = &mut Messages::new(rt.stderr());
-    if !input.is_terminal() {
-        let source = Source::Elsewhere;
+    let watch = &mut DrillProgress::new(rt.stderr(), terminals);
+    if terminals.source == Source::Elsewhere {
         let ended = program(
-            &files,
-            alloc,
-            &words,
-            input,
-            output,
-            errors,
-            source,
-            destination,
+            &files, alloc, &words, input, output, errors, watch, terminals,
         );
         return Ok(ended.status());
     }
     let input = Watched::new(input);
     let ended = program(
-        &files,
-        alloc,
-        &words,
-        input,
-        output,
-        errors,
-        Source::Terminal,
-        destination,
+        &files, alloc, &words, input, output, errors, watch, terminals,
     );
     Ok(with_rest_dropped(ended, errors).status())
 }

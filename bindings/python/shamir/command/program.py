@@ -119,8 +119,8 @@ def failure(failed: DeviceFailed) -> int:
 
 
 def is_attended() -> bool:
-    """Return whether a person types the input, or sees the output."""
-    return devices.is_terminal(0) or devices.is_terminal(1)
+    """Return whether a person types the input, or sees the output or the messages."""
+    return any(devices.is_terminal(descriptor) for descriptor in range(3))
 
 
 def is_bare(call: Call) -> bool:

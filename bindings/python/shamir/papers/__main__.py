@@ -13,6 +13,7 @@ from shamir.papers.check import check_papers
 from shamir.papers.desk import Desk
 from shamir.papers.help import show_help
 from shamir.papers.new import make_backup
+from shamir.papers.plan import plain_plan
 from shamir.papers.recover import recover_secret
 from shamir.papers.repair import read_damaged
 from shamir.papers.replace import replace_paper
@@ -154,8 +155,7 @@ def main() -> None:
         terminal.open()
         screen = Screen(terminal)
         prepare(screen, kind, forbidden)
-        # A plan may be typed with spaces, such as 2 of 3.
-        run(screen, desk, args.task, "".join(getattr(args, "plan", [])).replace(" ", "") or None)
+        run(screen, desk, args.task, plain_plan("".join(getattr(args, "plan", []))) or None)
     except Ended as by:
         ended = by.number
     except Exception:

@@ -100,9 +100,8 @@ def _take(screen: Screen, desk: Desk, title: str, paper: Paper, task: str) -> No
 def _refuse(screen: Screen, desk: Desk, paper: Paper, refusal: shamir.Refusal) -> None:
     """Says why a paper doesn't belong to the others, and how to take one of these out if it may be wrong."""
     desk.leave_out(paper.words)
-    screen.drop_typed()
     repaired = [it.name for it in desk.papers if it.is_repaired]
-    screen.tell(said_foreign(refusal, repaired, paper.is_repaired), "bad")
+    screen.fault(said_foreign(refusal, repaired, paper.is_repaired))
     if repaired or not paper.is_repaired:
         screen.tell(say("entry.drop", sign=DROP, name=(repaired or [desk.papers[-1].name])[-1]))
 
@@ -205,4 +204,4 @@ def _ask_more(screen: Screen) -> Optional[str]:
         parts = parts_of(typed)
         if not typed or len(parts) > 1 or any(mark in words for _, mark in parts):
             return typed
-        screen.tell(say("screen.answers", answers="Enter, e"), "bad")
+        screen.fault(say("screen.answers", answers="Enter, e"))

@@ -8,12 +8,13 @@ from __future__ import annotations
 from typing import Callable, Dict, List, Optional, Sequence, Tuple
 
 import shamir
-from shamir.papers.desk import Paper, find_fault, paper_of
+from shamir.papers.desk import Paper, find_fault, paper_of, resembles
 from shamir.papers.found import ask_paper
-from shamir.papers.paste import Pasted, ask_whole, papers_in
+from shamir.papers.paste import PASTE_MAX, Pasted, ask_whole, papers_in
 from shamir.papers.refusals import said_refusal, wrong_word
 from shamir.papers.screen import Screen
-from shamir.papers.spelling import DROP, Part, beginning, continued, has_idle_number, nearest, numbers_of, parts_of, placed, read, said_empty, seems_bip39, taken_out
+from shamir.papers.spelling import DROP, LEAST, Part, beginning, continued, has_idle_number, nearest, numbers_of, parts_of, placed
+from shamir.papers.spelling import read, said_empty, seems_bip39, taken_out
 from shamir.papers.texts import counted, say
 
 # Most papers have one of these numbers of words.
@@ -79,7 +80,7 @@ class Entry:
                 if marks:
                     return self._whole(marks)
                 if not parts:
-                    self._fault(say("entry.wordless"))
+                    self._screen.fault(say("entry.wordless"))
             except Begun:
                 self._dropped()
 
@@ -140,13 +141,43 @@ class Entry:
     def _ask(self, prompt: str, begun: str = "", has_back: bool = False) -> str:
         return self._screen.ask(prompt, lambda letters: beginning(self._list, letters), has_back, begun)
 
-    def _asked(self, prompt: str, begun: str = "") -> str:
-        """Asks for a part of a paper. The owner may begin the paper again instead."""
+    def _asked(self, prompt: str, begun: str = "", is_continued: bool = False) -> str:
+        """Asks for a part of a paper. The owner may begin the paper again instead. `is_continued` says that words may follow."""
         text = self._ask(prompt, begun)
         # The sign may stand behind what was refused, and stands in the line again.
         if text.strip() == DROP or (begun and text.split()[-1:] == [DROP]):
             raise Begun
+        if self._takes_several:
+            self._heed_others(text, is_continued)
         return text
+
+    def _heed_others(self, text: str, is_continued: bool) -> None:
+        """If other papers are pasted where a part of this one is asked for, raises Pasted with this one and all that are pasted.
+        `is_continued` says that this one may go on before them."""
+        texts = papers_in(f"{text}\n{self._screen.ahead(PASTE_MAX)}", self.wanted)
+        marks = [[mark for _, mark in parts_of(it)] for it in texts]
+        if not any(self._is_other(it) and self.judged(text)[0] is not None for text, it in zip(texts, marks)):
+            return
+        self._screen.pasted(PASTE_MAX)
+        begun = " ".join(f"{number} {mark}" for number, mark in enumerate(self._marks, 1) if mark)
+        if len(marks[0]) < LEAST and is_continued:
+            texts[0] = f"{begun}\n{texts[0]}"
+        elif self._is_other(marks[0]):
+            texts.insert(0, begun)
+        raise Pasted(texts)
+
+    def _is_other(self, marks: Sequence[str]) -> bool:
+        """Whether marks aren't the paper that is being typed."""
+        return len(marks) < LEAST or not resembles(self._words(marks), self._words(self._marks))
+
+    def _words(self, marks: Sequence[str]) -> List[str]:
+        return [read(self._list, mark) or mark for mark in marks if mark]
+
+    def _tell_other(self, parts: Sequence[Part]) -> None:
+        """Takes note of the paper that was begun, and says that it isn't taken, if another one has taken its place."""
+        if len(parts) >= LEAST and self._is_other([mark for _, mark in parts]):
+            self._leave([mark for mark in self._marks if mark])
+            self._screen.tell_seen(say("screen.dropped"))
 
     def _until_placed(self, prompt: str, change: Callable[[List[Part]], Optional[List[str]]], fault: str) -> List[str]:
         """Asks until what is typed has a place. What has none stands again behind the question if it is long. A paper that is typed back
@@ -158,11 +189,13 @@ class Entry:
                 self._show()
                 begun = ""
                 continue
-            changed = None if has_idle_number(text) else change([(number, self._read(mark) or mark) for number, mark in parts_of(text)])
+            parts = [(number, self._read(mark) or mark) for number, mark in parts_of(text)]
+            changed = None if has_idle_number(text) else change(parts)
             if changed is not None:
+                self._tell_other(parts)
                 return changed
             begun = f"{text.rstrip()} " if len(text.split()) > SHORT else ""
-            self._fault(f"{fault} {say('entry.stays')}" if begun else fault)
+            self._screen.fault(f"{fault} {say('entry.stays')}" if begun else fault)
 
     def _prompt(self, number: Optional[int] = None) -> str:
         """Returns the question for the word with this number, or for words that the owner names by their numbers."""
@@ -226,7 +259,7 @@ class Entry:
         if not marks:
             raise Begun
         key = "entry.on.many" if not self.wanted and len(marks) > FEW else "entry.on"
-        text = self._asked(say(key, typed=said_count(len(marks), self.wanted), number=len(marks) + 1, sign=DROP))
+        text = self._asked(say(key, typed=said_count(len(marks), self.wanted), number=len(marks) + 1, sign=DROP), is_continued=True)
         parts, numbers = parts_of(text), numbers_of(text)
         if numbers and key == "entry.on.many":
             return self._without(marks, numbers)
@@ -239,16 +272,17 @@ class Entry:
     def _shortened(self, marks: List[str]) -> List[str]:
         """Asks which words are too many. As many words as a paper has take the place of all."""
         self._tell_typed(marks)
-        self._fault(said_count(len(marks), self.wanted))
+        self._screen.fault(said_count(len(marks), self.wanted))
         while True:
             text = self._asked(say("entry.over", sign=DROP))
             parts = parts_of(text)
             if len(parts) == self.wanted:
+                self._tell_other(parts)
                 return self._anew(parts)
             shorter = self._without(marks, numbers_of(text))
             if len(shorter) < len(marks):
                 return shorter
-            self._fault(say("entry.over.numbers", count=len(marks)))
+            self._screen.fault(say("entry.over.numbers", count=len(marks)))
 
     def _without(self, marks: Sequence[str], numbers: Sequence[int]) -> List[str]:
         """Returns marks without those that have these numbers. Those after them get other numbers."""
@@ -280,7 +314,7 @@ class Entry:
         """Says if marks are likely to be of a BIP-39 backup."""
         is_other = [self._read(mark) for mark in marks].count(None) * UNKNOWN_PART > len(marks)
         if seems_bip39(self._list, marks):
-            self._fault(say("entry.bip39", count=len(marks)))
+            self._screen.fault(say("entry.bip39", count=len(marks)))
             if is_other:
                 raise Begun
         elif is_other and len(marks) >= TOLD_LEAST and self._show is None and not self._is_told:
@@ -296,7 +330,7 @@ class Entry:
     def _mended(self, marks: List[str], number: int) -> List[str]:
         """Asks for a word again that isn't one. Words that follow are taken too if they contradict none that was typed."""
         self._marks = marks
-        self._fault(self._unknown(number, marks[number - 1]))
+        self._screen.fault(self._unknown(number, marks[number - 1]))
         mended = self._until_placed(self._prompt(number), lambda parts: continued(marks, number, parts), say("entry.one", number=number))
         self._note_replaced(marks, dict(enumerate(mended[:number], 1)))
         return mended
@@ -317,7 +351,7 @@ class Entry:
     def _corrected(self, marks: List[str], refusal: shamir.Refusal) -> List[str]:
         """Says what is wrong, and asks for the words that are. The owner may also type words that follow, or begin again."""
         self._tell_typed(marks)
-        self._fault(said_refusal(refusal, self._task))
+        self._screen.fault(said_refusal(refusal, self._task))
         if refusal.code in (shamir.Code.BAD_PADDING, shamir.Code.GROUP_THRESHOLD):
             raise Begun
         if refusal.code == shamir.Code.BAD_CHECKSUM:
@@ -347,11 +381,6 @@ class Entry:
         if parts and count != self.wanted and numbers[0] in (None, count + 1) and all(self._read(mark) for _, mark in parts):
             return self._placed(marks, parts)
         return None
-
-    def _fault(self, text: str) -> None:
-        """Says what is wrong. What was typed ahead is dropped, so that it answers no question that the owner hasn't seen."""
-        self._screen.drop_typed()
-        self._screen.tell(text, "bad")
 
 
 def said_count(count: int, wanted: Optional[int]) -> str:

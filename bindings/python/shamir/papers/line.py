@@ -1,4 +1,5 @@
-"""A line that is typed: shown or hidden, with Backspace, Ctrl-U and Ctrl-W, and words that complete themselves.
+"""A line that is typed: shown or hidden, with Backspace, Ctrl-U and Ctrl-W, and words that complete themselves. In a
+hidden line, a tab is a character.
 
 Python's readline isn't used: it keeps copies of what is typed, reads the owner's settings, and can't be hidden by Ctrl-Z.
 """
@@ -82,11 +83,13 @@ class Line:
             self._shorten(self._typed.rstrip(b" ").rfind(b" ") + 1)
         elif key == ESCAPE:
             skip_sequence(self._terminal)
-        elif key == TAB:
+        elif key == TAB and not self._is_hidden:
             self._offer()
-        elif key >= SPACE and len(self._typed) >= LENGTH_MAX:
+        elif key < SPACE and key != TAB:
+            return
+        elif len(self._typed) >= LENGTH_MAX:
             self.is_cut = True
-        elif key >= SPACE:
+        else:
             if key in b" ,":
                 self._end_word()
             self._add(bytes([key]))

@@ -31,6 +31,11 @@ class Plan:
         return [f"{group}.{member}" for group, (_, members) in enumerate(self.groups) for member in range(members)]
 
 
+def plain_plan(typed: str) -> str:
+    """Returns a plan as the library reads it, if an owner typed it in another form: 2 of 3, 2-of-3 or 2OF3."""
+    return re.sub(r"-?of-?", "of", re.sub(r"\s", "", typed.lower()))
+
+
 def plan_of(text: str) -> Plan:
     """Reads the text of a plan that the library took."""
     head, _, rest = text.rpartition("/")

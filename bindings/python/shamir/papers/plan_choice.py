@@ -5,7 +5,7 @@ import re
 from typing import Optional
 
 import shamir
-from shamir.papers.plan import Plan, plan_of, said_dangers, said_plan
+from shamir.papers.plan import Plan, plain_plan, plan_of, said_dangers, said_plan
 from shamir.papers.refusals import said_refusal
 from shamir.papers.screen import Back, Screen
 from shamir.papers.texts import say
@@ -68,8 +68,8 @@ def _choose_plan(screen: Screen, title: str, fault: str, told: str) -> Plan:
         screen.tell(say("names.sentence"))
     while True:
         typed = screen.ask(say("new.plan.choose"), has_back=True).strip()
-        text = PROPOSALS[typed][1] if typed in PROPOSALS else typed.replace(" ", "")
+        text = PROPOSALS[typed][1] if typed in PROPOSALS else plain_plan(typed)
         fault = _fault_of(text)
         if not fault:
             return plan_of(text)
-        screen.tell(fault, "bad")
+        screen.fault(fault)

@@ -64,9 +64,9 @@ def _ask_noted(screen: Screen, made: Made) -> str:
         if not typed:
             _show(screen, made)
         elif not is_fingerprint(typed):
-            screen.tell(say("proof.wrong"), "bad")
+            screen.fault(say("proof.wrong"))
         elif not gives(Tried((), made.fingerprint, None), typed):
-            screen.tell(say("proof.other"), "bad")
+            screen.fault(say("proof.other"))
         else:
             return typed
 

@@ -33,7 +33,7 @@ def ask_right(screen: Screen, prompt: str, has_back: bool, most: int = LENGTH_MA
             return typed
         wipe(typed)
         if fault:
-            screen.tell(fault, "bad")
+            screen.fault(fault)
 
 
 def _is_meant(screen: Screen, typed: bytearray, has_back: bool) -> bool:
@@ -63,7 +63,7 @@ def ask_passphrase(screen: Screen, desk: Desk) -> str:
         screen.tell(say("passphrase.twice"))
         if _is_typed_again(screen, desk.passphrase):
             return noted
-        screen.tell(say("passphrase.differ"), "bad")
+        screen.fault(say("passphrase.differ"))
 
 
 def _is_typed_again(screen: Screen, passphrase: bytearray) -> bool:
@@ -89,7 +89,7 @@ def ask_new_passphrase(screen: Screen, has_back: bool) -> bytearray:
         if _is_typed_again(screen, first):
             return first
         wipe(first)
-        screen.tell(say("passphrase.differ"), "bad")
+        screen.fault(say("passphrase.differ"))
 
 
 def cleaned(typed: str) -> str:
@@ -103,7 +103,7 @@ def ask_noted(screen: Screen, key: str = "noted.ask", may_lack: bool = True) -> 
         typed = cleaned(screen.ask(say(key), has_back=True))
         if is_fingerprint(typed) or (not typed and may_lack):
             return typed
-        screen.tell(say("noted.wrong" if may_lack else "noted.again.wrong"), "bad")
+        screen.fault(say("noted.wrong" if may_lack else "noted.again.wrong"))
 
 
 def is_fingerprint(typed: str) -> bool:

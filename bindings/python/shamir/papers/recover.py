@@ -71,12 +71,15 @@ def _tell(screen: Screen, desk: Desk, secret: bytearray, noted: str, has_passphr
         which = "unnoted" if not noted else "same" if gives(Tried((), fingerprint, None), noted) else "other"
         screen.tell(say(f"recover.done.{which}"), "strong")
         key = "recover.other.none" if which == "other" and not has_passphrase else f"recover.{which}"
-        screen.tell(f"{say(key, noted=noted)} {fingerprint}", {"same": "good", "other": "bad"}.get(which, ""))
+        told = f"{say(key, noted=noted)} {fingerprint}", {"same": "good", "other": "bad"}.get(which, "")
+        screen.tell(*told)
         if which == "other":
             return ask_next(screen, "again")
         screen.tell(say("digits.what"))
         if screen.agree(say("recover.show")):
             _show(screen, secret)
+            # The fingerprint isn't cleared together with the digits: it may not be noted yet.
+            screen.tell(*told)
     finally:
         wipe(secret)
     if which == "same":

@@ -11,7 +11,7 @@ import threading
 import time
 from typing import Callable, Dict, Generic, Iterable, List, Optional, Sequence, Tuple, TypeVar
 
-from shamir.papers.line import ENTER, Completer, Line, first_key, wipe
+from shamir.papers.line import Completer, Line, first_key, wipe
 from shamir.papers.terminal import PASTE_SECONDS, Ended, Resized, Terminal
 from shamir.papers.texts import said_time, say
 
@@ -27,11 +27,18 @@ STACK_BYTES = 1 << 20
 SHOWN_AFTER = 1.0
 # Where a question says so, this answer goes back to the question before.
 BACK = "b"
+# This key asks whether to stop a long work.
+STOP = "s"
 
 
 def wrapped(text: str, width: int) -> List[str]:
     """Returns the rows of a paragraph."""
     return textwrap.wrap(text, width, break_on_hyphens=False)
+
+
+def _printable(read: bytes) -> str:
+    """Returns what was pasted, without keys that move or erase."""
+    return "".join(it for it in read.decode("utf-8", "replace") if it in "\n\t" or it.isprintable())
 
 
 class Stopped(Exception):
@@ -173,8 +180,13 @@ class Screen:
         return typed
 
     def ask_hidden(self, prompt: str, has_back: bool = False) -> bytearray:
-        """Asks, and returns what is typed. The screen shows nothing of it."""
-        typed = self._read(prompt, None, True)
+        """Asks, and returns what is typed in one line. The screen shows nothing of it."""
+        while True:
+            typed = self._read(prompt, None, True)
+            if not self.is_pasted(PASTE_SECONDS) or not self.drop_typed():
+                break
+            wipe(typed)
+            self.tell(say("screen.lines"), "bad")
         if has_back and typed.strip().lower() == BACK.encode():
             raise Back
         return typed
@@ -202,9 +214,19 @@ class Screen:
         """Returns the rest of a paste, up to so many bytes, and whether there was more. Keys that move or erase are left out."""
         read = bytearray()
         is_cut = self._terminal.pasted(read, most)
-        text = "".join(it for it in read.decode("utf-8", "replace") if it in "\n\t" or it.isprintable())
+        text = _printable(read)
         wipe(read)
         return text, is_cut
+
+    def ahead(self, most: int) -> str:
+        """Returns the rest of a paste that is no longer than so many bytes, and leaves it to be read."""
+        read = bytearray()
+        if self._terminal.pasted(read, most):
+            self.tell_seen(say("screen.dropped"))
+        self._terminal.put_back(read)
+        text = _printable(read)
+        wipe(read)
+        return text
 
     def choose(self, prompt: str, answers: Dict[str, T], default: Optional[str] = None, has_back: bool = False, is_hidden: bool = False) -> T:
         """Asks until one of the answers is given, or none if there is a default. A hidden answer doesn't show. If a paste comes in place of an
@@ -239,11 +261,13 @@ class Screen:
                 self._terminal.tells_size = False
 
     def pause(self, prompt: str) -> bool:
-        """Waits for Enter, and returns whether it came alone. What was typed before doesn't count."""
+        """Waits for Enter, and returns whether it came alone. If not, what came is dropped, and the owner is told."""
         self.drop_typed()
         typed = self._read(prompt, None, True)
         is_alone = not typed.strip()
         wipe(typed)
+        if not is_alone and not self.drop_typed():
+            self.tell_seen(say("screen.dropped"))
         return is_alone
 
     def _more(self, clears: bool = False) -> None:
@@ -260,13 +284,22 @@ class Screen:
         if is_dropped:
             self.tell_seen(say("screen.dropped"))
 
-    def drop_typed(self) -> None:
-        """Drops what was typed and not read, such as the rest of a paste that the owner doesn't see, and says so."""
-        is_dropped = bool(self._begun.strip())
+    def drop_typed(self) -> bool:
+        """Drops what was typed and not read, such as the rest of a paste that the owner doesn't see. If it was more than Enter, says so,
+        and returns True."""
+        is_begun = bool(self._begun.strip())
         wipe(self._begun)
         self._begun = bytearray()
-        if self._terminal.drop_typed() or is_dropped:
+        is_dropped = self._terminal.drop_typed() or is_begun
+        if is_dropped:
             self.tell_seen(say("screen.dropped"))
+        return is_dropped
+
+    def fault(self, text: str) -> None:
+        """Says what is wrong with an answer. What was typed ahead is dropped, so that it answers no question that the owner hasn't
+        seen."""
+        self.drop_typed()
+        self.tell(text, "bad")
 
     def work(self, call: Callable[[], T], progress: Callable[[], str] = lambda: "", is_stoppable: bool = False) -> T:
         """Returns what a call of the library gives, or raises its error. Meanwhile the screen shows the time that has passed.
@@ -290,14 +323,14 @@ class Screen:
         return work.result()
 
     def _heed_key(self, work: Work[T]) -> None:
-        """Raises Stopped if the key is Enter, and the owner means it. The work goes on meanwhile."""
-        if self._terminal.key() not in ENTER:
-            self.drop_typed()
-            self.tell(say("work.key"))
-            return
+        """Raises Stopped if the key is the one for it, and the owner means it. The work goes on meanwhile. Enter stops nothing, as it goes
+        on elsewhere."""
+        is_stop = chr(self._terminal.key()).lower() == STOP
         self._row("")
         self.drop_typed()
-        if self.agree(say("work.sure")) and not work.ended.is_set():
+        if not is_stop:
+            self.tell(say("work.key"))
+        elif self.agree(say("work.sure")) and not work.ended.is_set():
             raise Stopped
 
     def _row(self, text: str) -> None:

@@ -104,7 +104,7 @@ def _ask_exponent(screen: Screen) -> int:
     while True:
         typed = screen.ask(say("new.exponent"), has_back=True).strip() or str(EXPONENT)
         if not typed.isdecimal() or int(typed) > shamir.EXPONENT_MAX:
-            screen.tell(say("more.exponent.wrong"), "bad")
+            screen.fault(say("more.exponent.wrong"))
             continue
         exponent = int(typed)
         time = said_time(derivation_seconds(measured(), exponent, 16))
@@ -133,7 +133,7 @@ def _ask_own(screen: Screen) -> bytearray:
 def _is_noted(screen: Screen, fingerprint: str, noted: str) -> bool:
     """Whether digits have the noted fingerprint. If not, the owner types the fingerprint again, or goes back to the digits."""
     while not gives(Tried((), fingerprint, None), noted):
-        screen.tell(say("secret.other", fingerprint=fingerprint, noted=noted), "bad")
+        screen.fault(say("secret.other", fingerprint=fingerprint, noted=noted))
         try:
             noted = ask_noted(screen, "noted.again", may_lack=False)
         except Back:
@@ -150,7 +150,7 @@ def _ask_twice(screen: Screen) -> bytearray:
         secret = _bytes_of(typed)
         if fault:
             wipe(secret)
-            screen.tell(fault, "bad")
+            screen.fault(fault)
             continue
         again = _bytes_of(screen.ask_hidden(say("new.secret.again")))
         is_same = secret == again
@@ -158,7 +158,7 @@ def _ask_twice(screen: Screen) -> bytearray:
         if is_same:
             return secret
         wipe(secret)
-        screen.tell(say("secret.differ"), "bad")
+        screen.fault(say("secret.differ"))
 
 
 def _fault_of(typed: bytearray) -> str:

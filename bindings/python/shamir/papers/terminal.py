@@ -67,8 +67,8 @@ class Terminal:
         self.is_held = False
         self._is_interrupted = False
         self._was_return = False
-        # A byte that was read to see whether it is the rest of a line's end.
-        self._kept: Optional[int] = None
+        # What was read ahead, and is typed next.
+        self._ahead = bytearray()
         # Whether another size ends a wait for a key. If not, what was written is written again.
         self.tells_size = False
         self._is_resized = False
@@ -244,9 +244,8 @@ class Terminal:
         return NO_KEY if is_end else typed
 
     def _byte(self) -> int:
-        if self._kept is not None:
-            kept, self._kept = self._kept, None
-            return kept
+        if self._ahead:
+            return self._ahead.pop(0)
         while self._source not in select.select([self._source, self._woken], [], [])[0]:
             os.read(self._woken, 64)
             self.heed_interrupt()
@@ -261,11 +260,16 @@ class Terminal:
 
     def is_typed(self, seconds: float) -> bool:
         """Whether something is typed within this time, apart from the rest of a line's end."""
-        if self._kept is None and self._was_return and select.select([self._source], [], [], seconds)[0]:
+        if not self._ahead and self._was_return and select.select([self._source], [], [], seconds)[0]:
             self._was_return = False
             typed = self._byte()
-            self._kept = None if typed == LINE_FEED else typed
-        return self._kept is not None or bool(select.select([self._source], [], [], seconds)[0])
+            self._ahead += b"" if typed == LINE_FEED else bytes([typed])
+        return bool(self._ahead) or bool(select.select([self._source], [], [], seconds)[0])
+
+    def put_back(self, typed: bytes) -> None:
+        """Lets what was read be typed next."""
+        self._was_return = False
+        self._ahead[:0] = typed
 
     def drop_typed(self) -> bool:
         """Drops what was typed and not read, such as the rest of a paste that the owner doesn't see, up to its end. Returns whether it

@@ -60,7 +60,7 @@ def _ask_name(screen: Screen, desk: Desk, status: shamir.Status, count: int) -> 
         found = NAME.fullmatch(typed)
         wrong = _fault_of(found, status, count)
         if found is None or wrong:
-            screen.tell(wrong, "bad")
+            screen.fault(wrong)
             continue
         group, member = int(found[1] or 0), int(found[2])
         needed = 0 if any(it.group == group for it in status.groups) else _ask_needed(screen, group)
@@ -87,7 +87,7 @@ def _ask_needed(screen: Screen, group: int) -> int:
         typed = screen.ask(say("which.ask.needed", group=group), has_back=True).strip()
         if typed.isdecimal() and 1 <= int(typed) <= MEMBERS_MAX:
             return int(typed)
-        screen.tell(say("which.needed.wrong"), "bad")
+        screen.fault(say("which.needed.wrong"))
 
 
 def _plan_with(desk: Desk, status: shamir.Status, wanted: int, needed: int) -> Plan:

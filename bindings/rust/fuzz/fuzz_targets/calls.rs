@@ -8,7 +8,7 @@ use shamir::{Drill, Error, Plan, RecoverOptions};
 fn call(which: u8, text: &[u8], lines: &[u8]) -> Result<(), Error> {
     let options = RecoverOptions::new().passphrase(text).max_exponent(0);
     let plan = || String::from_utf8_lossy(text).parse::<Plan>();
-    match which % 12 {
+    match which % 13 {
         0 => shamir::parse(lines).map(drop),
         1 => shamir::recover(lines, &options).map(drop),
         2 | 3 => shamir::encrypted(lines).map(drop),
@@ -17,6 +17,7 @@ fn call(which: u8, text: &[u8], lines: &[u8]) -> Result<(), Error> {
         7 => shamir::resplit(&plan()?, lines, &lines[..lines.len().min(14)]).map(drop),
         8 => shamir::repair(lines).map(drop),
         5 | 9 | 10 => shamir::status(lines).map(drop),
+        11 => shamir::judge(lines, text).map(drop),
         _ => Ok(drop(shamir::words(text))),
     }
 }

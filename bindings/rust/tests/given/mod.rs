@@ -35,6 +35,8 @@ pub(crate) const MISMATCHED_SECOND: [&str; 4] = [
 ];
 /// This would be member 3 of group 0 of the backup of `FIVE`, if `PLAN` gave that group four members. Another program made it.
 pub(crate) const FOURTH: &str = "academic aluminum acrobat marathon crisis luxury step activity teammate unfair fumes endorse always ranked alto problem mailman ounce teacher bumpy";
+/// This has the name of the first mnemonic of `FIVE`, and another value.
+pub(crate) const CONFLICTING: &str = "academic aluminum acrobat leaf civil drink heat negative damage union purchase photo inmate training amazing yield bucket lend glance junk";
 /// With these random bytes, `2of3` gives the two mnemonics of `TWO` in reverse order, and one between them.
 pub(crate) const TWO_SECRET: &str = "b43ceb7e57a0ea8766221624d01b0864";
 pub(crate) const TWO_RANDOM: &str = "64359164e7a006aadd75179d6d5c";

@@ -1,8 +1,7 @@
 -- How often a reader is read.
-use Rattle.std.proofs.Common.{◌≡◌, ◌≢◌, ℕ, ◌+◌, ◌≤◌, List, [], ◌++◌, length, length-append, Option, Some, None, inl, inr, ap, arith, subst, ◌∙◌}
+use Rattle.std.proofs.Common.{◌≡◌, ℕ, ◌+◌, List, [], ◌++◌, length, length-append, Option, Some, inl, inr, ap, arith, subst, ◌∙◌}
 use Rattle.std.specs.Io.KnownBytes.{Consumes, IsAtEnd}
-use Rattle.s39_input.specs.Device.{Counted}
-use Rattle.s39_input.specs.Runs.{OfInput, ReadsAreFew}
+use Rattle.s39_input.specs.Runs.{ReadsAreFew}
 
 pub reads_are_few : {R : Type 0} (remaining : R → Option (List ℕ)) → ReadsAreFew remaining
 reads_are_few remaining old new bytes left told rest of =

@@ -29,7 +29,7 @@ use Rattle.s39_input.specs.Accepted.{IsReadAs}
 use Rattle.s39_input.specs.Fault.{fault_of, fault_of_stop}
 use Rattle.s39_input.specs.Input.{Input, ended_line}
 use Rattle.s39_reading.specs.Lengths.{longest_status}
-use Rattle.s39_reading.specs.Status.{first_line, group_text, status_text, status_written, IsStatusOutput}
+use Rattle.s39_reading.specs.Status.{first_line, group_text, status_text, status_written, IsStatusOf, IsStatusOutput}
 use Rattle.s39_input.specs.Steps.{gives, refuses}
 use Rattle.s39_input.proofs.Texts.NamesShort.{bytes_of, bytes_of-sublist, length-quorum_text}
 use Rattle.s39_input.proofs.Texts.AllNames.{all_names, part_of_all}
@@ -159,12 +159,16 @@ written_short (share ∷ shares) is status some =
     let count = first.group_count in
     text_short set is status (omega (arith, complete, complete_few (member_threshold_of set) (map name_of set))) (omega (arith, required, within, count))
 
-pub status_short : ((input : Input) (set : List ShareFields) → IsReadAs input (Ok set) → IsShareSet set) → (input : Input) (text : List ℕ) (status : Status)
-    → IsStatusOutput input text (Ok status) → length text ≤ longest_status
-status_short share_sets input text status (refuses stop read is) = absurd (not_done {T = Status} [] text (fault_of_stop stop) status (sym is))
-status_short share_sets input text status (gives set read is) = by (status_of set) refl is where
+pub set_status_short : (set : List ShareFields) → IsShareSet set → (text : List ℕ) (status : Status) → IsStatusOf set text (Ok status)
+    → length text ≤ longest_status
+set_status_short set is_set text status is = by (status_of set) refl is where
   by : (o : Option Status) → status_of set ≡ o → (text, Ok status) ≡ status_written set o → length text ≤ longest_status
   by None none nothing = absurd (not_done {T = Status} [] text (fault_of (Lack NoShares)) status (sym nothing))
   by (Some other) some all =
       let text_is : text ≡ status_text set other = ap (λ (w : List ℕ × Result Status Fault). w.0) all in
-      omega (arith, ap length text_is, written_short set (share_sets input set read) other some)
+      omega (arith, ap length text_is, written_short set is_set other some)
+
+pub status_short : ((input : Input) (set : List ShareFields) → IsReadAs input (Ok set) → IsShareSet set) → (input : Input) (text : List ℕ) (status : Status)
+    → IsStatusOutput input text (Ok status) → length text ≤ longest_status
+status_short share_sets input text status (refuses stop read is) = absurd (not_done {T = Status} [] text (fault_of_stop stop) status (sym is))
+status_short share_sets input text status (gives set read is) = set_status_short set (share_sets input set read) text status is

@@ -1,7 +1,7 @@
 -- All lines that `create` writes have a quorum, so `recover` gives the secret of them.
 use Rattle.std.proofs.Common.{◌≡◌, ℕ, List, map, subst, sym, ◌∙◌, true, false, inl, inr, Option}
 use Rattle.s39_kdf.specs.declared.noted.NotedFingerprint.{NotedFingerprint}
-use Rattle.std.proofs.Common.{All, Result, Ok, Err}
+use Rattle.std.proofs.Common.{Result, Ok, Err}
 use Rattle.s39_words.specs.declared.ShareFields.{ShareFields}
 use Rattle.s39_set.specs.ShareSet.{name_of}
 use Rattle.s39_set.specs.Quorums.{MeetsThresholds}

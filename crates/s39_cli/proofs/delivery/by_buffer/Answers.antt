@@ -5,6 +5,7 @@ use Rattle.s39_cli.specs.Said.{work_late_lines}
 use Rattle.s39_cli.specs.Work.{IsWorkOutput}
 use Rattle.s39_cli.proofs.Deliveries.{delivers_behind, empty_buffer}
 use Rattle.s39_cli.proofs.SaidByRuns.{said_behind}
+use Rattle.s39_cli.proofs.SeenByRuns.{seen_behind}
 use Rattle.s39_cli.proofs.delivery.by_buffer.Goals as goal
 
 pub returns-clause-delivers : goal.returns-clause-delivers
@@ -24,3 +25,9 @@ returns-clause-said g c =
     (work_late_lines c.args.work.now c.args.notes.is_attended c.args.notes.tells_of_none) (writer_contents g.W.Write.contents c.into_inner.result)
     (g.W.Write.contents c.handed_on-answer.result.1) c.args.errors.now c.run_told-answer.new.errors c.args.input c.new-reader.ensures.device
     c.run_told-answer.result c.handed_on-answer.result.0 c.run_told-answer.ensures.said c.handed_on-answer.ensures.handed
+
+pub returns-clause-seen : goal.returns-clause-seen
+returns-clause-seen g c =
+    seen_behind g.P.Watch.sees g.R.Read.remaining c.new-reader.result.device c.args.work.now (writer_contents g.W.Write.contents c.into_inner.result) (g.W.Write.contents c.handed_on-answer.result.1)
+    c.args.watch.now c.run_told-answer.new.watch c.args.input c.new-reader.ensures.device c.run_told-answer.result c.handed_on-answer.result.0
+    c.run_told-answer.ensures.seen c.handed_on-answer.ensures.handed

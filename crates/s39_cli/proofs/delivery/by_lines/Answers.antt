@@ -6,6 +6,7 @@ use Rattle.s39_cli.specs.Said.{work_late_lines}
 use Rattle.s39_cli.specs.Work.{IsWorkOutput}
 use Rattle.s39_cli.proofs.Deliveries.{delivers_behind}
 use Rattle.s39_cli.proofs.SaidByRuns.{said_behind}
+use Rattle.s39_cli.proofs.SeenByRuns.{seen_behind}
 use Rattle.s39_cli.proofs.delivery.by_lines.Goals as goal
 
 pub returns-clause-delivers : goal.returns-clause-delivers
@@ -25,3 +26,9 @@ returns-clause-said g c =
     (work_late_lines c.args.work.now c.args.notes.is_attended c.args.notes.tells_of_none) (g.W.Write.contents c.into_inner.result.output)
     (g.W.Write.contents c.flushed-answer.result.1) c.args.errors.now c.run_told-answer.new.errors c.args.input c.new-reader.ensures.device
     c.run_told-answer.result c.flushed-answer.result.0 c.run_told-answer.ensures.said c.flushed-answer.ensures.handed
+
+pub returns-clause-seen : goal.returns-clause-seen
+returns-clause-seen g c =
+    seen_behind g.P.Watch.sees g.R.Read.remaining c.new-reader.result.device c.args.work.now (g.W.Write.contents c.into_inner.result.output) (g.W.Write.contents c.flushed-answer.result.1)
+    c.args.watch.now c.run_told-answer.new.watch c.args.input c.new-reader.ensures.device c.run_told-answer.result c.flushed-answer.result.0
+    c.run_told-answer.ensures.seen c.flushed-answer.ensures.handed

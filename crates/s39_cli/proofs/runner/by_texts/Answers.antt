@@ -1,9 +1,11 @@
-use Rattle.std.proofs.Common.{subst}
+use Rattle.std.proofs.Common.{refl, subst}
 use Rattle.s39_cli.specs.Outcome.{status_of}
 use Rattle.s39_cli.specs.Said.{Says, memory_line}
 use Rattle.s39_cli.proofs.Ends.{does_work}
 use Rattle.s39_cli.proofs.Untouched.{run_untouched, work_alike}
 use Rattle.s39_cli.proofs.Said.{said_by_work, said_for_memory, said_unbegun}
+use Rattle.s39_cli.proofs.SeenByRuns.{seen_by_work, seen_some}
+use Rattle.s39_cli.proofs.SeenOfWords.{unseen_memory, unseen_unbegun}
 use Rattle.s39_cli.proofs.runner.by_texts.Goals as goal
 
 pub returns-then-goes_by_lines-clause-ends : goal.returns-then-goes_by_lines-clause-ends
@@ -63,4 +65,46 @@ returns-clause-said g c =
     c.asks.result c.in-Ok.work c.args.input c.no_memory_left.result c.args.errors.now c.say_if.new.self c.no_memory_left.new.errors c.asks.ensures
     c.say_if.ensures.said
     (subst (λ m. Says g.E.Write.contents m c.no_memory_left.new.errors memory_line) c.in-None.ensures.unsaid c.no_memory_left.ensures.said)
+    c.no_memory_left.ensures.ends
+
+-- ---- how many quorums are told of
+
+pub returns-in-Err-clause-seen : goal.returns-in-Err-clause-seen
+returns-in-Err-clause-seen g c = (0, refl)
+
+pub returns-then-goes_by_lines-clause-seen : goal.returns-then-goes_by_lines-clause-seen
+returns-then-goes_by_lines-clause-seen g c =
+    seen_some g.P.Watch.sees g.R.Read.remaining c.args.input c.in-Ok.work c.by_lines-finished.result.answer c.args.watch.now c.by_lines-finished.new.watch
+    c.by_lines-finished.ensures.seen
+
+pub returns-in-Some-clause-seen : goal.returns-in-Some-clause-seen
+returns-in-Some-clause-seen g c =
+    seen_some g.P.Watch.sees g.R.Read.remaining c.args.input c.in-Ok.work c.in-Some.finished.answer c.args.watch.now c.by_buffer.new.watch
+    c.in-Some.ensures.seen
+
+pub returns-clause-seen : goal.returns-clause-seen
+returns-clause-seen g c = (0, c.in-None.ensures.unseen)
+
+pub returns-in-Err-clause-listed : goal.returns-in-Err-clause-listed
+returns-in-Err-clause-listed g c =
+    unseen_unbegun g.P.Watch.sees g.R.Read.remaining c.args.job c.args.input c.args.watch.now c.args.watch.now c.in-Err.unready c.args.input c.args.output
+    c.unbegun.result c.unbegun.ensures.ends
+
+pub returns-then-goes_by_lines-clause-listed : goal.returns-then-goes_by_lines-clause-listed
+returns-then-goes_by_lines-clause-listed g c =
+    let run = c.by_lines-finished.result in
+    seen_by_work g.P.Watch.sees g.R.Read.remaining c.args.input c.args.job c.args.texts.secret.now c.args.texts.passphrase.now c.in-Ok.work run.answer
+    run.input run.output c.answered.result c.args.watch.now c.by_lines-finished.new.watch c.in-Ok.ensures.work c.by_lines-finished.ensures.seen
+    c.answered.ensures.ends
+
+pub returns-in-Some-clause-listed : goal.returns-in-Some-clause-listed
+returns-in-Some-clause-listed g c =
+    let run = c.in-Some.finished in
+    seen_by_work g.P.Watch.sees g.R.Read.remaining c.args.input c.args.job c.args.texts.secret.now c.args.texts.passphrase.now c.in-Ok.work run.answer
+    run.input run.output c.answered-in-Some.result c.args.watch.now c.by_buffer.new.watch c.in-Ok.ensures.work c.in-Some.ensures.seen
+    c.answered-in-Some.ensures.ends
+
+pub returns-clause-listed : goal.returns-clause-listed
+returns-clause-listed g c =
+    unseen_memory g.P.Watch.sees g.R.Read.remaining c.args.job c.args.input c.args.watch.now c.by_buffer.new.watch c.no_memory_left.result
     c.no_memory_left.ensures.ends

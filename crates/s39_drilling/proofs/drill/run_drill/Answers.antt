@@ -37,7 +37,7 @@ returns-in_err-list_from-clause-runs g c =
     rw (p.1, p.2) (failed_run g.R.Read.remaining g.W.Write.contents c.args.form c.args.passphrase.now (option_copied c.args.after) c.args.limit
     c.args.input.now c.checked_set.new.input c.in_ok-set.set c.in_ok-set.ensures.checked (omega (arith, c.in_ok-set.ensures.read_failures))
     c.args.output.now c.list_from.new.output c.in_ok-start.start c.in_err-list_from.field-0.0 starts
-    (c.in_err-list_from.ensures (option_copied c.args.after) starts.starts))
+    (c.in_err-list_from.ensures.lines (option_copied c.args.after) starts.starts))
 
 pub returns-clause-runs : goal.returns-clause-runs
 returns-clause-runs g c =
@@ -45,7 +45,7 @@ returns-clause-runs g c =
     drilled_run g.R.Read.remaining g.W.Write.contents c.args.form c.args.passphrase.now (option_copied c.args.after) c.args.limit
     c.args.input.now c.checked_set.new.input c.in_ok-set.set c.in_ok-set.ensures.checked (omega (arith, c.in_ok-set.ensures.read_failures))
     c.args.output.now c.list_from.new.output c.in_ok-start.start c.in_ok-list_from.field-0 starts
-    (c.in_ok-list_from.ensures (option_copied c.args.after) starts.starts)
+    (c.in_ok-list_from.ensures.lines (option_copied c.args.after) starts.starts)
 
 -- ---- mnemonics of a created backup
 

@@ -1,4 +1,4 @@
-use Rattle.std.proofs.Common.{◌≡◌, ◌∙◌, ◌≤◌, List, ℕ, length, Some, None, Result, Ok, Err, ap, if◌then◌else◌}
+use Rattle.std.proofs.Common.{◌≡◌, ◌∙◌, ◌≤◌, List, ℕ, length, None, Ok, Err, ap, if◌then◌else◌}
 use Rattle.std.proofs.lemmas.Bool.{le-ltb}
 use Rattle.s39_words.specs.Reading.{reading}
 use Rattle.s39_input.specs.declared.fault.LineRefusal.TheVariants.{TooLong, Word}

@@ -15,6 +15,8 @@ use Rattle.s39_cli.specs.Outcome.{where_done, without_mismatches}
 use Rattle.s39_cli.specs.Said.{SaysOnceRead, line_if, read_lines, work_input_lines}
 use Rattle.s39_cli.specs.Work.{IsWorkOutput}
 use Rattle.s39_cli.proofs.SaidByRuns.{said_judged, unsaid_work}
+use Rattle.s39_cli.specs.Seen.{SeesDrill, SeesOnceRead, SeesWork}
+use Rattle.s39_cli.proofs.SeenByRuns.{seen_judged, unseen_work}
 use Rattle.s39_cli.proofs.Works.{Runs-judged}
 use Rattle.s39_cli.proofs.work.Work.run.Goals as goal
 
@@ -153,3 +155,48 @@ returns-in-Drill-clause-said g c =
     (said_judged g.R.Read.remaining g.E.Write.contents c.args.input.now.device without_mismatches
     (λ input. line_if c.args.is_attended (read_lines (read_as input))) c.drill_told.result c.without_mismatches.result c.args.errors.now
     c.drill_told.new.errors c.without_mismatches.ensures c.drill_told.ensures.said)
+
+-- ---- how many quorums are told of
+
+pub returns-in-Show-clause-seen : goal.returns-in-Show-clause-seen
+returns-in-Show-clause-seen g c =
+    unseen_work g.P.Watch.sees g.R.Read.remaining c.args.input.now.device c.args.self.now work.Show
+    c.where_done.result c.args.watch.now c.in-Show.is (λ _. refl)
+
+pub returns-in-Create-clause-seen : goal.returns-in-Create-clause-seen
+returns-in-Create-clause-seen g c =
+    unseen_work g.P.Watch.sees g.R.Read.remaining c.args.input.now.device c.args.self.now (work.Create c.in-Create.creation)
+    c.where_done-in-Create.result c.args.watch.now c.in-Create.is (λ _. refl)
+
+pub returns-in-Recover-clause-seen : goal.returns-in-Recover-clause-seen
+returns-in-Recover-clause-seen g c =
+    unseen_work g.P.Watch.sees g.R.Read.remaining c.args.input.now.device c.args.self.now (work.Recover c.in-Recover.passphrase c.in-Recover.form c.in-Recover.expected)
+    c.where_done-in-Recover.result c.args.watch.now c.in-Recover.is (λ _. refl)
+
+pub returns-in-Status-clause-seen : goal.returns-in-Status-clause-seen
+returns-in-Status-clause-seen g c =
+    unseen_work g.P.Watch.sees g.R.Read.remaining c.args.input.now.device c.args.self.now work.Status
+    c.with_enough.result c.args.watch.now c.in-Status.is (λ _. refl)
+
+pub returns-in-Reissue-clause-seen : goal.returns-in-Reissue-clause-seen
+returns-in-Reissue-clause-seen g c =
+    unseen_work g.P.Watch.sees g.R.Read.remaining c.args.input.now.device c.args.self.now (work.Reissue c.in-Reissue.reissue)
+    c.where_done-in-Reissue.result c.args.watch.now c.in-Reissue.is (λ _. refl)
+
+pub returns-in-Repair-clause-seen : goal.returns-in-Repair-clause-seen
+returns-in-Repair-clause-seen g c =
+    unseen_work g.P.Watch.sees g.R.Read.remaining c.args.input.now.device c.args.self.now work.Repair
+    c.run_repair.result c.args.watch.now c.in-Repair.is (λ _. refl)
+
+pub returns-in-Resplit-clause-seen : goal.returns-in-Resplit-clause-seen
+returns-in-Resplit-clause-seen g c =
+    unseen_work g.P.Watch.sees g.R.Read.remaining c.args.input.now.device c.args.self.now (work.Resplit c.in-Resplit.resplit)
+    c.where_done-in-Resplit.result c.args.watch.now c.in-Resplit.is (λ _. refl)
+
+pub returns-in-Drill-clause-seen : goal.returns-in-Drill-clause-seen
+returns-in-Drill-clause-seen g c =
+    let drill = c.in-Drill.drill in
+    subst (λ (w : Work). SeesOnceRead g.P.Watch.sees g.R.Read.remaining (SeesWork g.P.Watch.sees w) c.args.input.now.device
+    c.without_mismatches.result c.args.watch.now c.drill_told.new.watch) (sym c.in-Drill.is)
+    (seen_judged g.P.Watch.sees g.R.Read.remaining c.args.input.now.device without_mismatches (SeesDrill g.P.Watch.sees drill.after drill.limit)
+    c.drill_told.result c.without_mismatches.result c.args.watch.now c.drill_told.new.watch c.without_mismatches.ensures c.drill_told.ensures.seen)

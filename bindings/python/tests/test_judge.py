@@ -1,0 +1,138 @@
+"""Tests of what judges mnemonics and keeps them, and of the details of refusals by their names. The mnemonics are published vectors, or
+another program made them.
+"""
+import copy
+import dataclasses
+import pathlib
+import pickle
+import sys
+import unittest
+
+sys.path[:0] = [str(pathlib.Path(__file__).resolve().parent.parent), str(pathlib.Path(__file__).resolve().parent)]
+
+import shamir  # noqa: E402
+from test_shamir import FIVE, FORGED, MISMATCHED, ONE, PLAN, SECRET, TWO  # noqa: E402
+
+ID = 1
+WRONG = TWO[0].replace("armed", "acid")
+
+
+def refusal_of(call, *arguments, **options):
+    try:
+        call(*arguments, **options)
+    except shamir.Refusal as refusal:
+        return refusal
+    raise AssertionError("the call isn't refused")
+
+
+class Judgements(unittest.TestCase):
+    def test_judge(self):
+        fields = shamir.ShareFields(1, False, 0, 2, 2, 3, 0, 1)
+        found = shamir.judge(FIVE[:3], FIVE[4])
+        self.assertEqual(found, shamir.Judgement(fields, False, shamir.status([*FIVE[:3], FIVE[4]])))
+        self.assertTrue(found.status.enough)
+        # Lines of other backups don't matter, in whatever form they are.
+        others = [ONE, *FIVE[:3], TWO[0]]
+        data = [line.encode() for line in others]
+        for lines in ["\n".join(others), b"\n".join(data), others, [line + b"\n" for line in data], map(bytearray, data)]:
+            self.assertEqual(shamir.judge(lines, FIVE[4]), found)
+        again = shamir.judge(FIVE, bytearray(FIVE[4].upper().encode()))
+        self.assertEqual(again, shamir.Judgement(fields, True, shamir.status(FIVE)))
+        self.assertEqual(shamir.judge([], ONE).status, shamir.status(ONE))
+        self.assertEqual(dataclasses.asdict(shamir.parse(FIVE[4])), {**dataclasses.asdict(fields), "value": shamir.parse(FIVE[4]).value})
+
+    def test_what_judge_refuses(self):
+        for code, line, details, lines, mnemonic in [
+            (13, None, (0, 0), [WRONG], WRONG),
+            (12, None, (0, 0), [WRONG], ""),
+            (11, None, (1, 0), [], "# a note"),
+            (11, None, (20, 0), [], ONE + "\n"),
+            (13, 2, (0, 0), [ONE, WRONG], FIVE[0]),
+            (71, 1, (0, 0), ["#" * 1025], FIVE[0]),
+            (28, None, (0, 0), [ONE, FIVE[0]], FORGED[0]),
+            (28, 3, (0, 0), [ONE, FIVE[0], FORGED[0]], FIVE[1]),
+        ]:
+            refused = refusal_of(shamir.judge, lines, mnemonic)
+            self.assertEqual((refused.code, refused.line, refused.details), (code, line, details))
+        for lines, mnemonic in [(6, ONE), ([6], ONE), (FIVE, 6), (FIVE, [ONE]), (FIVE, None)]:
+            self.assertRaises(TypeError, shamir.judge, lines, mnemonic)
+        for lines, mnemonic in [([f"{ONE}\n{ONE}"], ONE), (["\ud800"], ONE), ([], "\ud800")]:
+            self.assertRaises(ValueError, shamir.judge, lines, mnemonic)
+
+    def test_the_text_of_a_status(self):
+        self.assertEqual(str(shamir.status(TWO[:1])), "groups 0 of 1\ngroup 0 members 1 of 2 0.2")
+        self.assertEqual(str(shamir.status(FIVE).groups[0]), "group 0 members 3 of 2 0.0+0.1+0.2")
+
+
+class Papers(unittest.TestCase):
+    def test_papers_of_several_backups(self):
+        papers = shamir.Papers()
+        given = [ONE, TWO[0], FIVE[3], FIVE[3], TWO[1].encode(), bytearray(FIVE[0].encode()), memoryview(FIVE[1].encode())]
+        self.assertEqual([papers.add(paper).again for paper in given], [False, False, False, True, False, False, False])
+        self.assertEqual(papers.ids, [7945, 25653, ID])
+        kept = [[ONE], TWO, [FIVE[3], *FIVE[:2]]]
+        self.assertEqual([[line.decode() for line in papers.lines(id)] for id in papers.ids], kept)
+        self.assertEqual(papers.lines(2), [])
+        # The lines of a backup are ready for other calls.
+        self.assertEqual(shamir.recover(papers.lines(ID), passphrase="TREZOR", expect="df41d8fe"), SECRET)
+        self.assertEqual([outcome.expected for outcome in shamir.drill(papers.lines(ID), passphrase="TREZOR", expect="df41d8fe")], [True])
+        self.assertEqual(papers.add(FIVE[4]).status, shamir.status(papers.lines(ID)))
+        room = bytearray(128)
+        self.assertEqual(room[: shamir.recover_into(room, papers.lines(ID), passphrase=b"TREZOR")], SECRET)
+
+    def test_a_refused_paper_is_not_kept(self):
+        papers = shamir.Papers()
+        papers.add(FIVE[0])
+        for paper, code in [(FORGED[0], 28), ("academic x", 11), ("", 12), (WRONG, 13)]:
+            refused = refusal_of(papers.add, paper)
+            self.assertEqual((refused.code, refused.line), (code, None))
+        self.assertRaises(TypeError, papers.add, 7)
+        self.assertEqual(papers.lines(ID), [FIVE[0].encode()])
+
+    def test_the_spelling(self):
+        """A mnemonic can have more than 1,024 bytes, but calls that take lines take no such line."""
+        papers = shamir.Papers()
+        papers.add(f" {FIVE[0].upper()}".replace(" ", "\t  ") + 2000 * " ")
+        papers.add(FIVE[1])
+        self.assertEqual(papers.lines(ID), [line.encode() for line in FIVE[:2]])
+
+    def test_clear(self):
+        given = bytearray(FIVE[0].encode())
+        with shamir.Papers() as papers:
+            papers.add(given)
+            [line] = papers.lines(ID)
+        self.assertEqual((line, papers.ids, given), (bytes(len(given)), [], FIVE[0].encode()))
+        papers.add(FIVE[1])
+        self.assertEqual(papers.lines(ID), [FIVE[1].encode()])
+
+
+class Details(unittest.TestCase):
+    def test_details_by_name(self):
+        counts = {"group": 0, "member": 1, "members": 1, "member_threshold": 2, "groups": 1, "group_threshold": 2}
+        for named, call in [
+            ({"exponent": 2}, lambda: shamir.recover(TWO, max_exponent=1)),
+            ({"word": 2}, lambda: shamir.parse("academic x")),
+            ({"words": 1}, lambda: shamir.parse("academic")),
+            ({}, lambda: shamir.parse(WRONG)),
+            ({"word": 20}, lambda: shamir.repair(WRONG)),
+            ({"open": 4}, lambda: shamir.repair(" ".join(["?"] * 4 + ONE.split()[4:]))),
+            ({"group": 0, "member": 0}, lambda: shamir.status([FIVE[0], FORGED[0]])),
+            ({"complete": 1, "required": 2}, lambda: shamir.recover(FIVE[3:4])),
+            ({"group": 1}, lambda: shamir.random_needed("1/1of1,3of2", 16)),
+            ({"group": 1}, lambda: shamir.random_needed("1/1of1,1of2", 16)),
+            ({"byte": 2}, lambda: shamir.recover(ONE, passphrase="a\x07")),
+            ({"bytes": 15}, lambda: shamir.fingerprint(bytes(15))),
+            ({"needed": 26}, lambda: shamir.create(PLAN, SECRET, random=b"")),
+            ({"needed": 16}, lambda: shamir.recover_into(bytearray(15), ONE.encode())),
+            ({"group": 0}, lambda: shamir.recover(MISMATCHED)),
+            ({"group": 3, "member": 1}, lambda: shamir.reissue(PLAN, "3.1", FIVE)),
+            (counts, lambda: shamir.reissue(PLAN, "0.1", [FIVE[0], FIVE[3]])),
+        ]:
+            refused = refusal_of(call)
+            for other in (refused, copy.copy(refused), pickle.loads(pickle.dumps(refused))):
+                found = {name: getattr(other, name) for name in shamir.Refusal.__annotations__ if getattr(other, name) is not None}
+                self.assertEqual(found, named, str(refused))
+
+
+if __name__ == "__main__":
+    unittest.main()

@@ -1,0 +1,76 @@
+//! Mnemonics that are judged beside others, and kept apart by their backups.
+#![cfg(feature = "alloc")]
+mod given;
+
+use given::{CONFLICTING, FIVE, ONE, ONE_SECRET, TWO, digits};
+use shamir::{Drill, Error, Found, Judgement, Name, Papers, RecoverOptions, ShareFields, judge, parse, recover, status};
+
+/// The identifiers of `ONE`, of `TWO` and of `FIVE`.
+const IDS: [u16; 3] = [7945, 25653, 1];
+
+fn trezor() -> RecoverOptions<'static> {
+    RecoverOptions::new().passphrase("TREZOR")
+}
+
+#[test]
+fn a_mnemonic_is_judged_beside_others() {
+    let Judgement { share, again, status: found, .. } = judge(FIVE[..3].join("\n"), FIVE[4]).unwrap();
+    assert_eq!((share, again), (ShareFields::from(&parse(FIVE[4]).unwrap()), false));
+    assert_eq!((share.id, share.name()), (1, Name { group: 2, member: 0 }));
+    assert_eq!(found, status([&FIVE[..3], &FIVE[4..]].concat().join("\n")).unwrap());
+    assert!(found.is_enough());
+
+    let found = judge(FIVE.join("\n"), FIVE[4].to_uppercase()).unwrap();
+    assert!(found.again && found.status == status(FIVE.join("\n")).unwrap());
+    let found = judge(FIVE.join("\n"), ONE).unwrap();
+    assert_eq!((found.share.id, found.again, found.status), (7945, false, status(ONE).unwrap()));
+}
+
+#[test]
+fn a_mnemonic_that_cannot_be_taken_has_no_line() {
+    let other = TWO[0].replace("armed", "acid");
+    assert_eq!(judge(&other, &other).unwrap_err(), Error::BadChecksum { line: None });
+    assert_eq!(judge(format!("{ONE}\n{other}"), FIVE[0]).unwrap_err(), Error::BadChecksum { line: Some(2) });
+    let conflict = |line| Error::ConflictingShare { line, group: 0, member: 0 };
+    assert_eq!(judge(format!("{ONE}\n{}", FIVE[0]), CONFLICTING).unwrap_err(), conflict(None));
+    assert_eq!(judge(format!("{}\n{CONFLICTING}", FIVE[0]), FIVE[1]).unwrap_err(), conflict(Some(2)));
+    assert!(judge(format!("{}\n{CONFLICTING}", FIVE[0]), ONE).is_ok());
+}
+
+#[test]
+fn papers_are_kept_by_their_backup() {
+    let mut papers = Papers::new();
+    let given = [ONE, TWO[0], FIVE[3], FIVE[3], TWO[1], FIVE[0], FIVE[1]];
+    let again: Vec<bool> = given.iter().map(|paper| papers.add(paper).unwrap().again).collect();
+    assert_eq!(again, [false, false, false, true, false, false, false]);
+    assert_eq!(papers.ids().collect::<Vec<_>>(), IDS);
+    let lines = IDS.map(|id| papers.lines(id).iter().collect::<Vec<_>>());
+    assert_eq!(lines, [vec![ONE], TWO.to_vec(), vec![FIVE[3], FIVE[0], FIVE[1]]]);
+    assert!(papers.lines(2).is_empty());
+    assert_eq!(format!("{papers:?}"), "{7945: Mnemonics(1), 25653: Mnemonics(2), 1: Mnemonics(3)}");
+
+    // The lines of a backup are ready for other calls.
+    assert_eq!(digits(recover(papers.lines(1), &trezor()).unwrap().as_bytes()), ONE_SECRET);
+    let expected = trezor().expected("df41d8fe");
+    assert!(Drill::new(papers.lines(1), &expected).all(|outcome| outcome.unwrap().found == Found::AsExpected));
+}
+
+#[test]
+fn a_refused_paper_is_not_kept() {
+    let mut papers = Papers::new();
+    papers.add(FIVE[0]).unwrap();
+    for (paper, code) in [(CONFLICTING, 28), ("academic x", 11), ("", 12), (&FIVE[1].replace("skin", "academic"), 13)] {
+        let error = papers.add(paper).unwrap_err();
+        assert_eq!((error.code(), error.line()), (code, None));
+    }
+    assert!(papers.lines(1).iter().eq([FIVE[0]]));
+}
+
+/// A line can have more than 1,024 bytes, but calls that take lines take no such line.
+#[test]
+fn papers_are_kept_in_the_spelling_of_the_library() {
+    let mut papers = Papers::new();
+    papers.add(format!(" {}{}", FIVE[0].to_uppercase().replace(' ', "\t  "), " ".repeat(2000))).unwrap();
+    papers.add(FIVE[1]).unwrap();
+    assert!(papers.lines(1).iter().eq([FIVE[0], FIVE[1]]));
+}
