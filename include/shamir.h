@@ -507,8 +507,9 @@ shamir_answer shamir_status(const char *lines, size_t lines_bytes, char *text, s
  * If the mnemonic itself is refused, the field line of the answer is 0. Otherwise it is the number of the first refused line of
  * lines. A line with another identifier is refused only if it isn't a mnemonic.
  *
- * The call refuses with the first of these that applies: 11 to 15 (line isn't a mnemonic), the code of the first refused line of
- * lines (11 to 15, 22 to 28, 71), 22 to 28 (the share of line can't join those of lines with its identifier), 1.
+ * The call refuses with the first of these that applies: 71 (line is too long), 11 to 15 (it isn't a mnemonic), the code of the
+ * first refused line of lines (11 to 15, 22 to 28, 71), 22 to 28 (the share of line can't join those of lines with its
+ * identifier), 1.
  *
  *     shamir_judgement judgement;
  *     char text[SHAMIR_STATUS_BYTES_MAX];

@@ -401,6 +401,9 @@ JUDGED: List[Row] = [
     ([ONE, TWO_2], TWO_0, done(1, 1), "groups 1 of 1\ngroup 0 members 2 of 2 0.0+0.2\n", (*OF_TWO_0, 0)),
     ([FIVE_0, FORGED_0], ONE, done(1, 1), "groups 1 of 1\ngroup 0 members 1 of 1 0.0\n", (*OF_ONE, 0)),
     # The mnemonic is judged by itself, before the others.
+    ([FIVE_0], FIVE_0.ljust(1024), done(0, 2), HALF, (*OF_FIVE_0, 1)),
+    ([FIVE_0], FIVE_0.ljust(1025), Answer(71, "line too long"), "", None),
+    (["academia"], "academia".ljust(1025), Answer(71, "line too long"), "", None),
     (["academia", "#" * 1025], ONE_WRONG, Answer(13, "bad checksum"), "", None),
     ([FIVE_0], "academic academia", Answer(11, "unknown word 2", first=2), "", None),
     ([FIVE_0], FIVE_0 + "\n", Answer(11, "unknown word 20", first=20), "", None),

@@ -44,6 +44,7 @@ class Judgements(unittest.TestCase):
     def test_what_judge_refuses(self):
         for code, line, details, lines, mnemonic in [
             (13, None, (0, 0), [WRONG], WRONG),
+            (71, None, (0, 0), [WRONG], WRONG.ljust(1025)),
             (12, None, (0, 0), [WRONG], ""),
             (11, None, (1, 0), [], "# a note"),
             (11, None, (20, 0), [], ONE + "\n"),

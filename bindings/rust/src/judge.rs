@@ -35,9 +35,9 @@ pub struct Judgement {
 /// taken for those of one backup. `mnemonic` is as for [`parse`](crate::parse). The status is that of the lines with its identifier,
 /// and of itself. `Papers` keeps the lines.
 ///
-/// Gives the first of these errors that applies: what `parse` gives for the mnemonic; the error of the first refused line (with the
-/// codes 11 to 15, 22 to 28 and 71); an error with a code from 22 to 28 and without a line, if the share of the mnemonic can't join
-/// those of the lines with its identifier.
+/// Gives the first of these errors that applies: one with the code 71, if the mnemonic has more than 1,024 bytes; what `parse` gives for
+/// it; the error of the first refused line (with the codes 11 to 15, 22 to 28 and 71); an error with a code from 22 to 28 and without a
+/// line, if the share of the mnemonic can't join those of the lines with its identifier.
 ///
 /// ```
 /// use shamir::{Error, judge};

@@ -34,7 +34,8 @@ pub struct ShamirJudgement {
 ///
 /// The call refuses with the first of these that applies, and `text` is then unchanged. So is `judgement`, except at 1:
 ///
-/// - 11 to 15 (`line` isn't a mnemonic), as `shamir_parse` refuses it, and the line of the answer is 0;
+/// - 71 (`line` has more than 1,024 bytes), and then 11 to 15 (it isn't a mnemonic), as `shamir_parse` refuses it; the line of the
+///   answer is 0;
 /// - the code of the first line of `lines` that is refused, with its number: by itself (11 to 15, 71), or because it has the
 ///   identifier of `line` and can't join those before it that have it too (22 to 28). A line with another identifier is
 ///   refused only by itself;

@@ -1,5 +1,5 @@
 -- What a mnemonic is beside lines that were taken before. Two mnemonics are taken to be of one backup if they have one identifier.
-use Rattle.std.specs.Prelude.{ℕ, List, [], length, Option, Some, None, Bool, true, false, filter, ◌==◌, if◌then◌else◌, Result, Ok, Err}
+use Rattle.std.specs.Prelude.{ℕ, List, [], length, Option, Some, None, Bool, true, false, filter, nat_lt, ◌==◌, if◌then◌else◌, Result, Ok, Err}
 use Rattle.std.specs.Option.{option_map_or}
 use Rattle.s39_lists.specs.Each.{and_then}
 use Rattle.s39_words.specs.declared.ShareFields.{ShareFields}
@@ -8,14 +8,14 @@ use Rattle.s39_words.specs.Reading.{reading}
 use Rattle.s39_set.specs.declared.set_error.SetError.{SetError}
 use Rattle.s39_set.specs.ShareSet.{refusal_of}
 use Rattle.s39_input.specs.declared.fault.LineRefusal.{LineRefusal}
-use Rattle.s39_input.specs.declared.fault.LineRefusal.TheVariants.{Word, Set}
+use Rattle.s39_input.specs.declared.fault.LineRefusal.TheVariants.{Word, TooLong, Set}
 use Rattle.s39_input.specs.declared.fault.Stop.{Stop}
 use Rattle.s39_input.specs.declared.fault.Refusal.TheVariants.{Line}
 use Rattle.s39_input.specs.declared.fault.Fault.{Fault}
 use Rattle.s39_input.specs.declared.judging.Judged.{Judged}
 use Rattle.s39_input.specs.Accepted.{held_share, shares_in, with_held, with_share}
 use Rattle.s39_input.specs.Fault.{fault_of, fault_of_stop}
-use Rattle.s39_input.specs.Input.{whole, lines_of}
+use Rattle.s39_input.specs.Input.{longest_line, whole, lines_of}
 use Rattle.s39_input.specs.Lines.{share_in, led}
 
 -- the share that is held, if it has this identifier
@@ -45,10 +45,14 @@ abbrev pub set_or_fault : Result (List ShareFields) (Stop LineRefusal) → Resul
 set_or_fault (Ok set) = Ok set
 set_or_fault (Err stop) = Err (fault_of_stop stop)
 
--- the share of a mnemonic; or the fault that a text is none, which has no line
+-- the share that a text is read as; or the fault that it is no mnemonic, which has no line
 abbrev pub share_or_fault : Result ShareFields WordError → Result ShareFields Fault
 share_or_fault (Ok share) = Ok share
 share_or_fault (Err error) = Err (fault_of (Line (Word error)))
+
+-- the share of a mnemonic; or the fault that a text is too long for a line, or no mnemonic, which has no line
+abbrev pub share_of : List ℕ → Result ShareFields Fault
+share_of line = if nat_lt longest_line (length line) then Err (fault_of (Line TooLong)) else share_or_fault (reading line)
 
 -- whether the set has the share already: then it doesn't grow by it
 abbrev pub is_again : List ShareFields → ShareFields → Bool
@@ -67,4 +71,4 @@ beside share set (Some error) = Err (fault_of (Line (Set error)))
 abbrev pub judgement : List ℕ → List ℕ → Result Judged Fault
 judgement lines line =
     and_then (λ share. and_then (λ set. beside share set (refusal_of set share)) (set_or_fault (mates share.id lines)))
-    (share_or_fault (reading line))
+    (share_of line)

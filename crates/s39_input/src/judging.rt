@@ -1,12 +1,11 @@
 //! What a mnemonic is beside those that came before it.
 ghost use Rattle.std.specs.Prelude.{◌≡◌, Ok, Err, IfOk, IfErr};
-ghost use Rattle.s39_words.specs.Reading.{reading};
 ghost use Rattle.s39_input.specs.Fault.{fault_of};
 ghost use Rattle.s39_set.specs.ShareSet.{refusal_of};
-ghost use Rattle.s39_input.specs.Judging.{beside, judged, judgement, share_or_fault};
+ghost use Rattle.s39_input.specs.Judging.{beside, judged, judgement, share_of};
 
 use crate::fault::{Fault, LineRefusal, Refusal};
-use crate::lines::{TakeLine, share_in, take_lines_of};
+use crate::lines::{MAX_LINE_BYTES, TakeLine, share_in, take_lines_of};
 use s39_set::{Added, ShareSet};
 use s39_words::{Share, parse};
 
@@ -32,8 +31,7 @@ struct Mates {
 impl TakeLine for Mates {
     ghost use Rattle.std.proofs.Common.{ap, refl};
     ghost use Rattle.s39_lists.specs.Each.{and_then};
-    ghost use Rattle.s39_words.specs.Reading.{reading};
-    ghost use Rattle.s39_input.specs.Accepted.{with_held};
+        ghost use Rattle.s39_input.specs.Accepted.{with_held};
     ghost use Rattle.s39_input.specs.Theory.LongLines.{long_is_refused};
     ghost use Rattle.s39_input.specs.Collecting.{CollectsMate};
     ghost use Rattle.s39_input.specs.Judging.{mate_in};
@@ -78,7 +76,7 @@ impl TakeLine for Mates {
 ///
 /// The first error that applies is returned:
 ///
-/// - a word error of `line`, at no line;
+/// - `TooLong`, at no line, if `line` has more than 1,024 bytes, and then a word error of it;
 /// - the first refused line of `lines`, with its number: a word error, `TooLong` if it has more than 1,024 bytes, or `Set`
 ///   if its share has the identifier of `line` and can't join those of the lines before it;
 /// - `Set`, at no line, if the share of `line` can't join theirs.
@@ -131,8 +129,11 @@ fn joins(set: &mut ShareSet, share: Share) -> Result<bool, Fault>
 
 /// The share of a mnemonic.
 fn share_of(line: &[u8]) -> Result<Share, Fault>
-    ensures { share_or_fault (reading line.now) ≡ result }
+    ensures { share_of line.now ≡ result }
 {
+    if line.len() > MAX_LINE_BYTES {
+        return Err(fault_of(LineRefusal::TooLong));
+    }
     match parse(line) {
         Ok(share) => Ok(share),
         Err(error) => Err(fault_of(LineRefusal::Word(error))),

@@ -108,12 +108,14 @@ fn told(fault: Fault) -> Told {
 #[test]
 fn mnemonics_are_refused(rt: HostRuntime) {
     let long = [b' '; 1025];
-    let cases: [(&[u8], &[u8], Told); 10] = [
+    let cases: [(&[u8], &[u8], Told); 12] = [
         (MEMBER_0, OTHER_MEMBER_0, (0, 28, 0, 0)),
         (MEMBER_0, OF_THREE, (0, 27, 0, 0)),
         (OF_TWO_BACKUPS, OTHER_EXPONENT, (0, 23, 0, 0)),
         (MEMBER_0, UNKNOWN_WORD, (0, 11, 13, 0)),
         (MEMBER_0, b"", (0, 12, 0, 0)),
+        (WITH_A_WRONG_LINE, &long, (0, 71, 0, 0)),
+        (MEMBER_0, &long[1..], (0, 12, 0, 0)),
         (WITH_A_WRONG_LINE, MEMBER_2, (2, 13, 0, 0)),
         (WITH_A_WRONG_LINE, OF_THREE, (2, 13, 0, 0)),
         (WITH_A_WRONG_LINE, UNKNOWN_WORD, (0, 11, 13, 0)),

@@ -1,6 +1,6 @@
 -- A judged mnemonic's set has the shares with its identifier, and its own.
 use Rattle.std.proofs.Common.{◌≡◌, ◌↔◌, ℕ, suc, Bool, true, false, cond, List, [], ◌∷◌, length, filter, Contains, inl, inr, refl, sym, ap, subst, ◌∙◌}
-use Rattle.std.proofs.Common.{Option, Some, None, Result, Ok, Err, ◌==◌, if◌then◌else◌}
+use Rattle.std.proofs.Common.{Option, Some, None, Result, Ok, Err, ◌==◌, nat_lt, if◌then◌else◌}
 use Rattle.std.specs.Option.{option_map_or}
 use Rattle.std.proofs.lemmas.List.Elements.{All-contains, All-cons}
 use Rattle.s39_lists.proofs.Each.{then_gives}
@@ -16,9 +16,12 @@ use Rattle.s39_set.specs.ShareSet.{IsShareSet, refusal_of}
 use Rattle.s39_set.proofs.Inserting.{takes_share}
 use Rattle.s39_input.specs.declared.fault.Fault.{Fault}
 use Rattle.s39_input.specs.declared.fault.LineRefusal.{LineRefusal}
+use Rattle.s39_input.specs.declared.fault.LineRefusal.TheVariants.{TooLong}
+use Rattle.s39_input.specs.declared.fault.Refusal.TheVariants.{Line}
 use Rattle.s39_input.specs.declared.fault.Stop.{Stop}
 use Rattle.s39_input.specs.declared.judging.Judged.{Judged}
-use Rattle.s39_input.specs.Input.{whole, lines_of}
+use Rattle.s39_input.specs.Fault.{fault_of}
+use Rattle.s39_input.specs.Input.{longest_line, whole, lines_of}
 use Rattle.s39_input.specs.Lines.{share_in, at_line, led}
 use Rattle.s39_input.specs.Accepted.{IsSetOf, held_share, with_held, with_line, with_share}
 use Rattle.s39_input.specs.Judging.{mate_in, with_mate, mates, holds_mate, mate_shares, is_again, beside, share_or_fault, set_or_fault, judgement}
@@ -88,7 +91,7 @@ pub record IsJudged (lines line : List ℕ) (judged : Judged) : Type 0 where
   pub set_is : with_share judged.share before ≡ judged.set
 
 pub is_judged : (lines line : List ℕ) (found : Judged) → judgement lines line ≡ Ok found → IsJudged lines line found
-is_judged lines line found is = by_read (reading line) refl is where
+is_judged lines line found is = by_length (nat_lt longest_line (length line)) is where
   Beside : ShareFields → List ShareFields → Result Judged Fault
   Beside share set = beside share set (refusal_of set share)
 
@@ -111,6 +114,11 @@ is_judged lines line found is = by_read (reading line) refl is where
       → and_then (λ share. and_then (Beside share) (set_or_fault (mates share.id lines))) (share_or_fault read) ≡ Ok found → IsJudged lines line found
   by_read (Err error) reads is = absurd (cc)
   by_read (Ok share) reads is = by_set share reads (mates share.id lines) refl is
+
+  by_length : (long : Bool) → and_then (λ share. and_then (Beside share) (set_or_fault (mates share.id lines)))
+      (if long then Err (fault_of (Line TooLong)) else share_or_fault (reading line)) ≡ Ok found → IsJudged lines line found
+  by_length true is = absurd (cc)
+  by_length false is = by_read (reading line) refl is
 
 -- the share is among the set's before it joins it, or it isn't, as is told
 told : (before : List ShareFields) (share : ShareFields) → IsShareSet before → IsShare share → refusal_of before share ≡ None

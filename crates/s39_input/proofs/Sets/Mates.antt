@@ -4,7 +4,6 @@ use Rattle.std.proofs.Common.{Some, None, Result, Ok, Err, Contains, ◌==◌, i
 use Rattle.std.proofs.lemmas.Bool.Decides.{nat_tests}
 use Rattle.s39_lists.specs.Each.{and_then}
 use Rattle.s39_words.specs.declared.ShareFields.{ShareFields}
-use Rattle.s39_words.specs.Reading.{reading}
 use Rattle.s39_set.specs.ShareSet.{IsShareSet, HasOneMore, refusal_of}
 use Rattle.s39_input.specs.Fault.{fault_of_stop}
 use Rattle.s39_input.specs.declared.fault.LineRefusal.{LineRefusal}
@@ -13,7 +12,7 @@ use Rattle.s39_input.specs.declared.judging.Mates.{Mates}
 use Rattle.s39_input.specs.Input.{whole, lines_of}
 use Rattle.s39_input.specs.Lines.{at_line, led}
 use Rattle.s39_input.specs.Collecting.{CollectsMate, ended_in}
-use Rattle.s39_input.specs.Judging.{mate_in, with_mate, mates, beside, judged, share_or_fault, set_or_fault, judgement}
+use Rattle.s39_input.specs.Judging.{mate_in, with_mate, mates, beside, judged, share_of, set_or_fault, judgement}
 use Rattle.s39_input.specs.Midway.{RunsOn, RunsOver}
 use Rattle.s39_input.proofs.Sets.WithShare.{with_own_share, with_one_more}
 
@@ -72,13 +71,13 @@ pub read_again : {A E : Type 0} (read : Result A E) (a b : A) → read ≡ Ok a 
 read_again {A} {E} read a b first second = let same : ◌≡◌ {A = Result A E} (Ok a) (Ok b) = sym first ∙ second in cc
 
 -- a judgement is the fault of the lines, or what the share is beside the set of its mates
-pub judged_stopped : (lines line : List ℕ) (share : ShareFields) (stop : Stop LineRefusal) → share_or_fault (reading line) ≡ Ok share
+pub judged_stopped : (lines line : List ℕ) (share : ShareFields) (stop : Stop LineRefusal) → share_of line ≡ Ok share
     → mates share.id lines ≡ Err stop → judgement lines line ≡ Err (fault_of_stop stop)
 judged_stopped lines line share stop read led =
     ap (and_then (λ s. and_then (λ set. beside s set (refusal_of set s)) (set_or_fault (mates s.id lines)))) read
     ∙ ap (λ m. and_then (λ set. beside share set (refusal_of set share)) (set_or_fault m)) led
 
-pub judged_beside : (lines line : List ℕ) (share : ShareFields) (set : List ShareFields) → share_or_fault (reading line) ≡ Ok share
+pub judged_beside : (lines line : List ℕ) (share : ShareFields) (set : List ShareFields) → share_of line ≡ Ok share
     → mates share.id lines ≡ Ok set → judgement lines line ≡ beside share set (refusal_of set share)
 judged_beside lines line share set read led =
     ap (and_then (λ s. and_then (λ set. beside s set (refusal_of set s)) (set_or_fault (mates s.id lines)))) read

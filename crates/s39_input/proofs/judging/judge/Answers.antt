@@ -1,8 +1,7 @@
 use Rattle.std.proofs.Common.{◌∙◌, sym, ap, Ok, Err}
 use Rattle.std.proofs.lemmas.Result.{err_from_is_err_and}
 use Rattle.s39_words.specs.declared.ShareFields.{ShareFields}
-use Rattle.s39_words.specs.Reading.{reading}
-use Rattle.s39_input.specs.Judging.{judged, mates, share_or_fault}
+use Rattle.s39_input.specs.Judging.{judged, mates, share_of}
 use Rattle.s39_input.proofs.Sets.Mates.{judged_beside, judged_stopped, read_again, runs_to_mates}
 use Rattle.s39_input.proofs.judging.judge.Goals as goal
 
@@ -19,7 +18,7 @@ pub returns-in_err-again : goal.returns-in_err-again
 returns-in_err-again c =
     let p = err_from_is_err_and c.from_residual-in_err-again.result c.from_residual-in_err-again.ensures.1 in
     let share = c.in_ok-share_of.field-0 in
-    let same = read_again (share_or_fault (reading c.args.line.now)) share c.in_ok-share.share c.in_ok-share_of.ensures c.in_ok-share.ensures in
+    let same = read_again (share_of c.args.line.now) share c.in_ok-share.share c.in_ok-share_of.ensures c.in_ok-share.ensures in
     let led = runs_to_mates c.args.lines.now (record { id = c.id.result; set = c.new.result }) c.take_lines_of.new.taker (Ok tt) c.new.ensures
     c.in_ok-take_lines_of.ensures in
     let own = ap (λ n. mates n c.args.lines.now) (ap (λ (s : ShareFields). s.id) same ∙ sym c.id.ensures) ∙ led in
@@ -29,7 +28,7 @@ returns-in_err-again c =
 pub returns : goal.returns
 returns c =
     let share = c.in_ok-share_of.field-0 in
-    let same = read_again (share_or_fault (reading c.args.line.now)) share c.in_ok-share.share c.in_ok-share_of.ensures c.in_ok-share.ensures in
+    let same = read_again (share_of c.args.line.now) share c.in_ok-share.share c.in_ok-share_of.ensures c.in_ok-share.ensures in
     let led = runs_to_mates c.args.lines.now (record { id = c.id.result; set = c.new.result }) c.take_lines_of.new.taker (Ok tt) c.new.ensures
     c.in_ok-take_lines_of.ensures in
     let own = ap (λ n. mates n c.args.lines.now) (ap (λ (s : ShareFields). s.id) same ∙ sym c.id.ensures) ∙ led in
