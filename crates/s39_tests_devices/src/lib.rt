@@ -8,6 +8,8 @@ mod failures;
 #[cfg(test)]
 mod hands;
 #[cfg(test)]
+mod person;
+#[cfg(test)]
 mod progress;
 #[cfg(test)]
 mod said;

@@ -1,20 +1,11 @@
 //! What a person is told while a drill lists.
 
-use s39_cli::{Destination, DrillProgress, Messages, Source, Terminals, Unwatched, Watch, program};
-use s39_fixtures::devices::Full;
-use s39_fixtures::shelves::NoFiles;
+use crate::person::{Screen, TOLD, run};
+use s39_cli::{Destination, DrillProgress, Source, Terminals, Watch};
 use s39_fixtures::{ALL_TERMINALS, FIVE, NO_TERMINAL, drilled, lines};
 use std::alloc::Global;
-use std::io::Write;
 use std::process::Abort;
 use std::test::Fail;
-
-/// Only messages go to a terminal.
-const TOLD: Terminals = Terminals {
-    source: Source::Elsewhere,
-    destination: Destination::Elsewhere,
-    errors: Destination::Terminal,
-};
 
 /// The input comes from a terminal, and messages go to one.
 const TYPED: Terminals = Terminals {
@@ -30,23 +21,6 @@ const SEEN: Terminals = Terminals {
     errors: Destination::Elsewhere,
 };
 
-/// Runs the words at these terminals, and returns the status. Nothing else can be said.
-fn run<W: Write + Drop, P: Watch>(
-    alloc: Global,
-    words: &[&str],
-    input: &str,
-    output: W,
-    watch: &mut P,
-    terminals: Terminals,
-) -> u8 {
-    let input = input.as_bytes();
-    let errors = &mut Messages::new(Full);
-    program(
-        &NoFiles, alloc, words, input, output, errors, watch, terminals,
-    )
-    .status()
-}
-
 /// A drill of five mnemonics with these words and terminals lists as many quorums as it does without, and tells these numbers of them.
 fn expect_progress(
     rt: &impl Abort,
@@ -56,16 +30,18 @@ fn expect_progress(
     wanted: &str,
 ) -> Result<(), Fail> {
     let five = lines(alloc, &FIVE)?;
-    let (mut plain, mut output, mut said) = (Vec::new(alloc), Vec::new(alloc), Vec::new(alloc));
-    let untold = run(alloc, words, &five, &mut plain, &mut Unwatched, NO_TERMINAL);
-    let watch = &mut DrillProgress::new(&mut said, terminals);
-    let status = run(alloc, words, &five, &mut output, watch, terminals);
+    let (mut plain, mut output) = (Vec::new(alloc), Vec::new(alloc));
+    let (mut untold, mut said) = (Screen::new(alloc), Screen::new(alloc));
+    let run_of = (words, five.as_str(), NO_TERMINAL);
+    let quiet = run(alloc, run_of, &mut plain, &mut Screen::Full, &mut untold);
+    let run_of = (words, five.as_str(), terminals);
+    let status = run(alloc, run_of, &mut output, &mut Screen::Full, &mut said);
     assert_eq!(rt;
         (status, output.as_slice()),
-        (untold, plain.as_slice()),
+        (quiet, plain.as_slice()),
         "{words:?}"
     );
-    assert_eq!(rt; said.as_slice(), wanted.as_bytes(), "{words:?}");
+    assert_eq!(rt; (untold.calls(), said.text()), (0, wanted.as_bytes()), "{words:?}");
     Ok(())
 }
 
@@ -98,7 +74,7 @@ fn tells_how_many_quorums_are_listed(rt: HostRuntime) -> Result<(), Fail> {
 #[test]
 fn tells_powers_of_two_and_then_multiples_of_the_greatest(rt: HostRuntime) -> Result<(), Fail> {
     let alloc = rt.alloc();
-    let mut said = Vec::new(alloc);
+    let mut said = Screen::new(alloc);
     let mut watch = DrillProgress::new(&mut said, TOLD);
     for count in 1..=40 {
         watch.listed(count);
@@ -137,7 +113,7 @@ fn tells_powers_of_two_and_then_multiples_of_the_greatest(rt: HostRuntime) -> Re
         let line = format!(in alloc; "shamir: quorums listed: {count}\n")?;
         all.push_str(&line)?;
     }
-    assert_eq!(rt; said.as_slice(), all.as_bytes());
+    assert_eq!(rt; said.text(), all.as_bytes());
     Ok(())
 }
 
@@ -147,8 +123,8 @@ fn lists_on_where_its_number_cant_be_told(rt: HostRuntime) -> Result<(), Fail> {
     let five = lines(alloc, &FIVE)?;
     let words = ["shamir", "drill", "--passphrase=TREZOR"];
     let mut output = Vec::new(alloc);
-    let watch = &mut DrillProgress::new(Full, TOLD);
-    let status = run(alloc, &words, &five, &mut output, watch, TOLD);
+    let run_of = (words.as_slice(), five.as_str(), TOLD);
+    let status = run(alloc, run_of, &mut output, &mut Screen::Full, &mut Screen::Full);
     assert_eq!(rt;
         (status, output.as_slice()),
         (0, drilled(alloc)?.as_bytes())

@@ -1,14 +1,12 @@
 //! What a person at a terminal is told, and that a message is one write.
 
-use s39_cli::{Destination, DrillProgress, Messages, Source, Terminals, Unwatched, Watch, program};
-use s39_fixtures::devices::{FailingAtFirst, Full, Interrupted};
-use s39_fixtures::shelves::Held;
+use crate::person::{Screen, TOLD, run};
+use s39_cli::{Destination, Source, Terminals};
 use s39_fixtures::{
     FIVE, NO_TERMINAL, ONE_OF_ONE, ONE_OF_ONE_BAD_CHECKSUM, TWO_NEEDED_MEMBER_0,
     TWO_NEEDED_MEMBER_2, forged, lines,
 };
 use std::alloc::Global;
-use std::io::{ErrorKind, Write};
 use std::process::Abort;
 use std::test::Fail;
 
@@ -45,40 +43,6 @@ const SEEN: Terminals = Terminals {
     errors: Destination::Elsewhere,
 };
 
-/// Only messages go to a terminal.
-const TOLD: Terminals = Terminals {
-    source: Source::Elsewhere,
-    destination: Destination::Elsewhere,
-    errors: Destination::Terminal,
-};
-
-/// Runs the words at these terminals over a file `f`, and returns the status.
-fn run<W: Write + Drop, E: Write + Drop>(
-    alloc: Global,
-    words: &[&str],
-    input: &str,
-    output: W,
-    errors: E,
-    terminals: Terminals,
-) -> u8 {
-    let shelf = Held {
-        files: &[("f", b"TREZOR\n")],
-    };
-    let input = input.as_bytes();
-    let errors = &mut Messages::new(errors);
-    program(
-        &shelf,
-        alloc,
-        words,
-        input,
-        output,
-        errors,
-        &mut Unwatched,
-        terminals,
-    )
-    .status()
-}
-
 /// The words at these terminals say these lines, one after another, with this status.
 fn expect_said(
     rt: &impl Abort,
@@ -87,13 +51,14 @@ fn expect_said(
     wanted: &[&str],
     status: u8,
 ) -> Result<(), Fail> {
-    let mut said = Vec::new(alloc);
-    let answer = run(alloc, words, input, Vec::new(alloc), &mut said, terminals);
+    let (mut said, mut progress) = (Screen::new(alloc), Screen::Full);
+    let run_of = (words, input, terminals);
+    let answer = run(alloc, run_of, &mut Vec::new(alloc), &mut said, &mut progress);
     let mut all = String::new(alloc);
     for line in wanted {
         all.push_str(line)?;
     }
-    assert_eq!(rt; said.as_slice(), all.as_bytes(), "{words:?}");
+    assert_eq!(rt; said.text(), all.as_bytes(), "{words:?}");
     assert_eq!(rt; answer, status, "{words:?}");
     Ok(())
 }
@@ -317,17 +282,17 @@ fn keeps_its_answer_where_nothing_can_be_said(rt: HostRuntime) -> Result<(), Fai
         (words.as_slice(), typed.as_str(), 2),
         (&bare, ONE_OF_ONE, 3),
     ] {
-        let (mut all, mut none, mut one) = (Vec::new(alloc), Vec::new(alloc), Vec::new(alloc));
-        let told = run(alloc, words, input, &mut all, Vec::new(alloc), TYPED);
-        let untold = run(alloc, words, input, &mut none, Full, TYPED);
-        // The first line fails. The lines behind it are said.
-        let mut halting = FailingAtFirst::new(alloc, ErrorKind::Other, 1, b"");
-        let halted = run(alloc, words, input, &mut one, &mut halting, TYPED);
-        assert_eq!(rt; (told, untold, halted, halting.calls), (0, 0, 0, calls));
-        assert_eq!(rt;
-            (all.len() > 0, none.as_slice(), one.as_slice()),
-            (true, all.as_slice(), all.as_slice())
-        );
+        let mut all = Vec::new(alloc);
+        let run_of = (words, input, TYPED);
+        let told = run(alloc, run_of, &mut all, &mut Screen::new(alloc), &mut Screen::Full);
+        assert_eq!(rt; (told, all.is_empty()), (0, false));
+        // The first line fails, and the lines behind it are said. Or no line is taken.
+        for (mut errors, said) in [(Screen::after(1, alloc), calls), (Screen::Full, 0)] {
+            let mut output = Vec::new(alloc);
+            let status = run(alloc, run_of, &mut output, &mut errors, &mut Screen::Full);
+            assert_eq!(rt; (status, errors.calls()), (0, said));
+            assert_eq!(rt; output.as_slice(), all.as_slice());
+        }
     }
     Ok(())
 }
@@ -369,17 +334,11 @@ fn says_a_refusal_in_one_write(rt: HostRuntime) -> Result<(), Fail> {
         (&named, ""),
     ];
     for (words, input) in cases {
-        let mut errors = Interrupted::new(alloc, 0);
-        let status = run(
-            alloc,
-            words,
-            input,
-            Vec::new(alloc),
-            &mut errors,
-            NO_TERMINAL,
-        );
-        assert!(rt; status != 0 && errors.calls == 1, "{words:?}");
-        assert!(rt; errors.bytes.as_slice().ends_with(b"\n"), "{words:?}");
+        let (mut errors, mut output) = (Screen::new(alloc), Vec::new(alloc));
+        let run_of = (words, input, NO_TERMINAL);
+        let status = run(alloc, run_of, &mut output, &mut errors, &mut Screen::Full);
+        assert!(rt; status != 0 && errors.calls() == 1, "{words:?}");
+        assert!(rt; errors.text().ends_with(b"\n"), "{words:?}");
     }
     Ok(())
 }
