@@ -70,6 +70,9 @@ extern "C" {
 /* The maximum number of mnemonics in a backup. */
 #define SHAMIR_MNEMONICS_MAX 256
 
+/* The maximum number of groups of a backup. */
+#define SHAMIR_GROUPS_MAX 16
+
 /* The maximum length of a line, without its line feed, for the calls that take lines. It applies to comments too. */
 #define SHAMIR_LINE_BYTES_MAX 1024
 
@@ -486,6 +489,54 @@ shamir_answer shamir_drill(
  */
 SHAMIR_CALL
 shamir_answer shamir_status(const char *lines, size_t lines_bytes, char *text, size_t text_bytes);
+
+/*
+ * What a status tells of one group.
+ *
+ * shamir_groups_of reads the lines of a status, which shamir_status or shamir_judge wrote, into groups, in the order of the lines.
+ * It returns how many groups there are: SHAMIR_GROUPS_MAX or fewer. It stands in the header alone.
+ *
+ *     shamir_group groups[SHAMIR_GROUPS_MAX];
+ *     size_t count = shamir_groups_of(text, (size_t)answer.written, groups);
+ */
+typedef struct shamir_group {
+    uint8_t group;     /* the group index */
+    uint8_t threshold; /* the member threshold */
+    uint16_t members;  /* bit M is 1 if member M is among the mnemonics */
+} shamir_group;
+SHAMIR_INLINE size_t shamir_groups_of(const char *text, size_t text_bytes, shamir_group *groups)
+{
+    /* A line is `group G members N of T NAMES`. Its numbers are G, N, T, and those of each name, group before member. */
+    size_t at = 0, count = 0;
+
+    while (at < text_bytes && text[at] != '\n') {
+        at++;
+    }
+    while (++at < text_bytes && count < SHAMIR_GROUPS_MAX) {
+        unsigned place = 0, number = 0;
+        shamir_group found = {0, 0, 0};
+
+        for (; at < text_bytes && text[at] != '\n'; at++) {
+            if (text[at] < '0' || '9' < text[at]) {
+                continue;
+            }
+            number = 10 * number + (unsigned)(text[at] - '0');
+            if (at + 1 < text_bytes && '0' <= text[at + 1] && text[at + 1] <= '9') {
+                continue;
+            }
+            if (place == 0) {
+                found.group = (uint8_t)number;
+            } else if (place == 2) {
+                found.threshold = (uint8_t)number;
+            } else if (place > 3 && place % 2 == 0) {
+                found.members = (uint16_t)(found.members | 1u << (number & 15u));
+            }
+            place++, number = 0;
+        }
+        groups[count++] = found;
+    }
+    return count;
+}
 
 /*
  * Judges a mnemonic beside those that came before it: whether it can be taken, whether it is there already, and what its backup

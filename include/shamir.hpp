@@ -483,12 +483,16 @@ template <class Call> Answer<Status> status(const Call &call)
         return Refusal(answer);
     }
     Status status{answer.first, answer.second, {}};
-    for (const Text line : parts(Text(room, size_of(answer.written)), '\n')) {
-        /* After the first line, "groups C of R", come lines "group G members N of T NAMES". */
-        const auto words = parts(line, ' ');
-        if (words.size() > 6) {
-            status.groups.push_back({number(words[1]), number(words[5]), names(words[6])});
+    shamir_group groups[SHAMIR_GROUPS_MAX];
+    const std::size_t count = shamir_groups_of(room, size_of(answer.written), groups);
+    for (std::size_t at = 0; at < count; at++) {
+        Names names;
+        for (unsigned member = 0; member < 16; member++) {
+            if (groups[at].members >> member & 1) {
+                names.push_back({groups[at].group, member});
+            }
         }
+        status.groups.push_back({groups[at].group, groups[at].threshold, std::move(names)});
     }
     return status;
 }

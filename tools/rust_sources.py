@@ -16,7 +16,7 @@ TYPES = {
 FIELDS = {"uint8_t": "u8", "uint16_t": "u16", "uint32_t": "u32", "uint64_t": "u64", "shamir_share": "Fields"}
 STRUCTS = {"shamir_answer": "Answer", "shamir_share": "Fields", "shamir_parameters": "Parameters", "shamir_judgement": "Judged"}
 # The crate has no use for these numbers of the header.
-UNUSED = {"NAMES_BYTES_MAX", "MNEMONIC_BYTES_MAX", "MNEMONICS_MAX", "LINE_BYTES_MAX", "FINGERPRINT_BYTES_MAX"}
+UNUSED = {"NAMES_BYTES_MAX", "MNEMONIC_BYTES_MAX", "MNEMONICS_MAX", "GROUPS_MAX", "LINE_BYTES_MAX", "FINGERPRINT_BYTES_MAX"}
 UNUSED |= {"LISTING_BYTES_ENOUGH", "STACK_BYTES", "VERSION_NUMBER"}
 
 
