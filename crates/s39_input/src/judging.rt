@@ -31,7 +31,8 @@ struct Mates {
 impl TakeLine for Mates {
     ghost use Rattle.std.proofs.Common.{ap, refl};
     ghost use Rattle.s39_lists.specs.Each.{and_then};
-        ghost use Rattle.s39_input.specs.Accepted.{with_held};
+    ghost use Rattle.s39_words.specs.Reading.{reading};
+    ghost use Rattle.s39_input.specs.Accepted.{with_held};
     ghost use Rattle.s39_input.specs.Theory.LongLines.{long_is_refused};
     ghost use Rattle.s39_input.specs.Collecting.{CollectsMate};
     ghost use Rattle.s39_input.specs.Judging.{mate_in};
