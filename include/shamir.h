@@ -742,7 +742,7 @@ typedef struct shamir_papers {
     uint8_t enough;      /* 1 if the mnemonics of its backup are enough for a recovery, else 0 */
 } shamir_papers;
 
-/* Finds the lines of a backup, and returns where they end. If there are none, they would be after all others. */
+/* For shamir_papers_add: finds the lines of a backup, and returns where they end. If there are none, their place is after all others. */
 SHAMIR_INLINE SHAMIR_STRUCT(1) size_t shamir_papers_find(shamir_papers *papers, uint16_t id)
 {
     shamir_share share;
@@ -765,7 +765,7 @@ SHAMIR_INLINE SHAMIR_STRUCT(1) size_t shamir_papers_find(shamir_papers *papers, 
     return found_end;
 }
 
-/* Moves the bytes after those that are used to a place among these. It exchanges them byte by byte, so no copy is left. */
+/* For shamir_papers_add: moves bytes behind those that are used to a place among these. No copy is left, as it exchanges bytes. */
 SHAMIR_INLINE SHAMIR_STRUCT(1) size_t shamir_papers_move(shamir_papers *papers, size_t place, size_t bytes)
 {
     size_t middle = papers->used, next = papers->used, end = papers->used + bytes;
@@ -784,7 +784,7 @@ SHAMIR_INLINE SHAMIR_STRUCT(1) size_t shamir_papers_move(shamir_papers *papers, 
     return end;
 }
 
-/* Judges a mnemonic beside those of papers, and keeps it unless it is there already. */
+/* Judges a mnemonic beside those that are there, and keeps it unless it is one of them. */
 SHAMIR_INLINE SHAMIR_STRUCT(1) shamir_answer shamir_papers_add(
     shamir_papers *papers, const char *line, size_t line_bytes, char *text, size_t text_bytes)
 {
@@ -811,10 +811,10 @@ SHAMIR_INLINE SHAMIR_STRUCT(1) shamir_answer shamir_papers_add(
     return answer;
 }
 
-/* For the library, an empty fingerprint is none. This one is refused in its place. */
+/* For the functions below: a fingerprint as the library takes it. There, an empty one is none, so one that is refused takes its place. */
 SHAMIR_INLINE const char *shamir_expected(const char *expected) { return expected == NULL ? "" : *expected ? expected : "-"; }
 
-/* Recovers the secret from the backup of the mnemonic that came last. */
+/* Recovers the secret of the backup of the mnemonic that came last. */
 SHAMIR_INLINE SHAMIR_STRUCT(1) shamir_answer shamir_papers_recover(
     const shamir_papers *papers, const char *passphrase, const char *expected, uint8_t *secret, size_t secret_bytes)
 {
@@ -876,7 +876,7 @@ SHAMIR_INLINE shamir_drilling shamir_drill_start(
     return drilling;
 }
 
-/* Lists the next part of a drill, and returns whether it has a quorum. It counts all quorums once the first part is there. */
+/* For shamir_drill_next: lists the next part, and returns whether it has a quorum. Once the first part is there, it counts all quorums. */
 SHAMIR_INLINE SHAMIR_STRUCT(1) int shamir_drill_list(shamir_drilling *drilling)
 {
     const char *noted = shamir_expected(drilling->expected);
