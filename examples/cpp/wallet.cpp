@@ -30,7 +30,8 @@ static void recover(shamir::Text passphrase, char **words) {
         std::cout << shamir::to_text(papers.add(paper));
     if (!papers.enough())
         throw std::runtime_error("more papers are needed");
-    std::cout << "fingerprint " << *shamir::fingerprint(*papers.recover({passphrase, words[2]})) << "\n";
+    const shamir::Secret secret = *papers.recover({passphrase, words[2]});
+    std::cout << "fingerprint " << *shamir::fingerprint(secret) << "\n";
 }
 
 static void drill(shamir::Text passphrase, char **words) {
