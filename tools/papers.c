@@ -18,7 +18,7 @@ static void take(shamir_papers *papers, const char *line)
     const shamir_answer answer = shamir_papers_add(papers, line, strcspn(line, "\n"), text, sizeof text);
 
     printf("code %u again %u enough %u used %lu\n", (unsigned)answer.code, papers->again, papers->enough, (unsigned long)papers->used);
-    fwrite(papers->backup, 1, papers->backup_bytes, stdout);
+    printf("%.*s", (int)papers->backup_bytes, papers->backup_bytes ? papers->backup : "");
 }
 
 static void drill(const shamir_papers *papers, const char *noted, size_t room_bytes)
