@@ -1,6 +1,6 @@
 /* Four clients of the library. The first line of standard input is the passphrase, except for repair. Papers are the
- * lines after it, or those of a file. FINGERPRINT is what make told. Ctrl-C stops a drill. To stay short, it shows what
- * is typed, which recover.c hides. `cc -Iinclude examples/c/wallet.c libshamir.a -o wallet` compiles it. */
+ * lines after it, or those of a file. Ctrl-C stops a drill. To stay short, it shows what is typed, and its streams keep
+ * copies. A wallet hides it, and reads as recover.c does. `cc -Iinclude examples/c/wallet.c libshamir.a` builds it. */
 #include <signal.h>
 #include <stdio.h>
 #include <string.h>
