@@ -26,10 +26,13 @@ const TURN_MILLISECONDS = 10;
  */
 export async function* drillWithProgress(engine, lines, options = {}) {
   const given = typeof lines === "string" || lines instanceof Uint8Array ? lines : [...lines];
-  let [number, quorums, start] = [0, 0n, Date.now()];
+  let number = 0;
+  let quorums = 0n;
+  let start = Date.now();
   for (const outcome of engine.drill(given, options)) {
     if (number === 0) quorums = engine.quorums(given);
-    yield { ...outcome, number: ++number, quorums };
+    number++;
+    yield { ...outcome, number, quorums };
     if (Date.now() - start < TURN_MILLISECONDS) continue;
     await new Promise((done) => setTimeout(done));
     start = Date.now();

@@ -27,7 +27,8 @@ def recover(passphrase: str, noted: str) -> None:
 
 def drill(passphrase: str, noted: str, file: str) -> None:
     papers = open(file).read()
-    quorums, stopped = shamir.quorums(papers), threading.Event()
+    quorums = shamir.quorums(papers)
+    stopped = threading.Event()
     signal.signal(signal.SIGINT, lambda *_: stopped.set())
     for number, outcome in enumerate(shamir.drill(papers, passphrase=passphrase, expect=noted), 1):
         print(f"{number} of {quorums}: {outcome.names} {'as expected' if outcome.expected else 'NOT as expected'}", flush=True)
