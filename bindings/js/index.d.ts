@@ -10,5 +10,6 @@
 export function open(module?: URL | undefined): Promise<TheEngine>;
 export { refusalOf } from "./clones.js";
 export { Papers } from "./papers.js";
+export { drillWithProgress } from "./progress.js";
 export type TheEngine = import("./shamir.js").Engine;
 export { Code, Engine, EXPONENT_MAX, load, OF_GROUPS, Refusal } from "./shamir.js";

@@ -9,6 +9,7 @@ import { load } from "./shamir.js";
 
 export { refusalOf } from "./clones.js";
 export { Papers } from "./papers.js";
+export { drillWithProgress } from "./progress.js";
 export { Code, Engine, EXPONENT_MAX, load, OF_GROUPS, Refusal } from "./shamir.js";
 
 /** @typedef {import("./shamir.js").Engine} TheEngine */

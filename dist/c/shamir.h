@@ -44,6 +44,7 @@
 
 #include <stddef.h>
 #include <stdint.h>
+#include <string.h>
 
 /*
  * The version of this header, as a text and as a number. shamir_version gives the version of the library. The number is
@@ -710,6 +711,213 @@ shamir_answer shamir_version(char *text, size_t text_bytes);
  */
 SHAMIR_CALL_IGNORABLE
 void shamir_wipe(void *buffer, size_t buffer_bytes);
+
+/*
+ * Mnemonics as they come, one after the other, of one backup or of several. The library decides about each.
+ *
+ * Set lines to a buffer of lines_bytes bytes, and all other fields to 0. Then shamir_papers_add takes one mnemonic after the other,
+ * and gives the answer and the text of shamir_judge. It keeps a mnemonic that isn't there yet, in lower-case words with single
+ * spaces. If the buffer has no room for it, the code is 1, and the field first is the number of bytes that it takes. If a mnemonic
+ * is refused, no field of the struct changes.
+ *
+ * The field backup has the lines of the backup of the mnemonic that came last. Calls that take lines take them.
+ * shamir_papers_recover calls shamir_recover with them. A NUL ends its passphrase and its fingerprint. If the fingerprint is NULL,
+ * nothing is compared, and an empty one is refused with 44. Every exponent is allowed.
+ *
+ * These functions stand in the header alone. The caller clears the buffer.
+ *
+ *     shamir_papers papers = {.lines = lines, .lines_bytes = sizeof lines};
+ *     shamir_answer answer = shamir_papers_add(&papers, line, strlen(line), text, sizeof text);
+ *     if (papers.enough) {
+ *         answer = shamir_papers_recover(&papers, "TREZOR", "df41d8fe", secret, sizeof secret);
+ *     }
+ */
+typedef struct shamir_papers {
+    char *lines;         /* the buffer for all mnemonics; those of one backup stand together */
+    size_t lines_bytes;  /* its length */
+    size_t used;         /* how many bytes of it have mnemonics */
+    const char *backup;  /* the lines of the backup of the mnemonic that came last */
+    size_t backup_bytes; /* their length */
+    uint8_t again;       /* 1 if the mnemonic that came last was there already, else 0 */
+    uint8_t enough;      /* 1 if the mnemonics of its backup are enough for a recovery, else 0 */
+} shamir_papers;
+
+/* For shamir_papers_add: finds the lines of a backup, and returns where they end. If there are none, their place is after all others. */
+SHAMIR_INLINE SHAMIR_STRUCT(1) size_t shamir_papers_find(shamir_papers *papers, uint16_t id)
+{
+    shamir_share share;
+    shamir_answer answer;
+    size_t at, end, found_at = papers->used, found_end = papers->used;
+
+    for (at = 0; at < papers->used; at = end) {
+        for (end = at; papers->lines[end] != '\n'; end++) {
+        }
+        /* The call has no room for the value, so it refuses with 1, and gives the fields. */
+        answer = shamir_parse(papers->lines + at, end - at, &share, NULL, 0);
+        end++;
+        if (answer.code == SHAMIR_E_TOO_SHORT && share.id == id) {
+            found_at = found_end == papers->used ? at : found_at;
+            found_end = end;
+        }
+    }
+    papers->backup = papers->lines + found_at;
+    papers->backup_bytes = found_end - found_at;
+    return found_end;
+}
+
+/* For shamir_papers_add: moves bytes behind those that are used to a place among these. No copy is left, as it exchanges bytes. */
+SHAMIR_INLINE SHAMIR_STRUCT(1) size_t shamir_papers_move(shamir_papers *papers, size_t place, size_t bytes)
+{
+    size_t middle = papers->used, next = papers->used, end = papers->used + bytes;
+    char moved;
+
+    while (bytes > 0 && place != next) {
+        moved = papers->lines[place];
+        papers->lines[place++] = papers->lines[next];
+        papers->lines[next++] = moved;
+        if (next == end) {
+            next = middle;
+        } else if (place == middle) {
+            middle = next;
+        }
+    }
+    return end;
+}
+
+/* Judges a mnemonic beside those that are there, and keeps it unless it is one of them. */
+SHAMIR_INLINE SHAMIR_STRUCT(1) shamir_answer shamir_papers_add(
+    shamir_papers *papers, const char *line, size_t line_bytes, char *text, size_t text_bytes)
+{
+    shamir_judgement found;
+    shamir_answer kept, answer = shamir_judge(papers->lines, papers->used, line, line_bytes, &found, text, text_bytes);
+    size_t place, bytes = 0;
+
+    if (answer.code != SHAMIR_DONE) {
+        return answer;
+    }
+    if (!found.again) {
+        /* A mnemonic without open places fits itself alone. */
+        kept = shamir_repair(line, line_bytes, papers->lines + papers->used, papers->lines_bytes - papers->used);
+        if (kept.code != SHAMIR_DONE) {
+            return kept;
+        }
+        bytes = (size_t)kept.written;
+    }
+    place = shamir_papers_find(papers, found.share.id);
+    papers->used = shamir_papers_move(papers, place, bytes);
+    papers->backup_bytes += bytes;
+    papers->again = found.again;
+    papers->enough = answer.first >= answer.second;
+    return answer;
+}
+
+/* For the functions below: a fingerprint as the library takes it. There, an empty one is none, so one that is refused takes its place. */
+SHAMIR_INLINE const char *shamir_expected(const char *expected) { return expected == NULL ? "" : *expected ? expected : "-"; }
+
+/* Recovers the secret of the backup of the mnemonic that came last. */
+SHAMIR_INLINE SHAMIR_STRUCT(1) shamir_answer shamir_papers_recover(
+    const shamir_papers *papers, const char *passphrase, const char *expected, uint8_t *secret, size_t secret_bytes)
+{
+    const char *noted = shamir_expected(expected);
+
+    return shamir_recover(
+        papers->backup, papers->backup_bytes, passphrase, strlen(passphrase), SHAMIR_EXPONENT_MAX, noted, strlen(noted), secret,
+        secret_bytes);
+}
+
+/*
+ * A drill that goes from quorum to quorum, and compares each secret with a noted fingerprint.
+ *
+ * shamir_drill_start takes mnemonics as shamir_drill does, a passphrase and the noted fingerprint, each of which a NUL ends, and a
+ * room of about 65536 bytes for parts of the listing, in which there is no secret. All of these must stay until the drill ends.
+ * Every exponent is allowed.
+ *
+ * shamir_drill_next goes on to the next quorum, and returns 1. If no quorum is left, or if the library refuses, it returns 0, and the
+ * field answer says which. The refusals are those of shamir_drill. A program can stop after each quorum, whose names are the cursor
+ * with which shamir_drill goes on.
+ *
+ * These functions stand in the header alone.
+ *
+ *     shamir_drilling drilling = shamir_drill_start(lines, lines_bytes, "TREZOR", "df41d8fe", text, sizeof text);
+ *     while (shamir_drill_next(&drilling)) {
+ *         printf("%s %d\n", drilling.names, drilling.as_expected);
+ *     }
+ */
+typedef struct shamir_drilling {
+    const char *lines;      /* what shamir_drill_start got */
+    size_t lines_bytes;
+    const char *passphrase;
+    const char *expected;
+    char *text;
+    size_t text_bytes;
+    size_t at;              /* where the next line of this part is */
+    size_t end;             /* where the lines of this part end */
+    uint64_t number;        /* the number of this quorum, from 1 */
+    uint64_t quorums;       /* how many quorums there are, or UINT64_MAX if there are more */
+    shamir_answer answer;   /* SHAMIR_DONE, with nothing written, or why the library refuses */
+    char names[SHAMIR_NAMES_BYTES_MAX + 1]; /* the names of this quorum, with a NUL after them */
+    uint8_t as_expected;    /* 1 if its secret has the noted fingerprint, else 0 */
+    uint8_t is_last;        /* 1 if no part is left, else 0 */
+} shamir_drilling;
+
+/* Prepares a drill. */
+SHAMIR_INLINE shamir_drilling shamir_drill_start(
+    const char *lines, size_t lines_bytes, const char *passphrase, const char *expected, char *text, size_t text_bytes)
+{
+    shamir_drilling drilling;
+
+    memset(&drilling, 0, sizeof drilling);
+    drilling.lines = lines;
+    drilling.lines_bytes = lines_bytes;
+    drilling.passphrase = passphrase;
+    drilling.expected = expected;
+    drilling.text = text;
+    drilling.text_bytes = text_bytes;
+    return drilling;
+}
+
+/* For shamir_drill_next: lists the next part, and returns whether it has a quorum. Once the first part is there, it counts all quorums. */
+SHAMIR_INLINE SHAMIR_STRUCT(1) int shamir_drill_list(shamir_drilling *drilling)
+{
+    const char *noted = shamir_expected(drilling->expected);
+    const shamir_answer listed = shamir_drill(
+        drilling->lines, drilling->lines_bytes, drilling->passphrase, strlen(drilling->passphrase), SHAMIR_EXPONENT_MAX, drilling->names,
+        strlen(drilling->names), 0xffffffffu, SHAMIR_FORM_EXPECTED, noted, strlen(noted), drilling->text, drilling->text_bytes);
+
+    drilling->is_last = 1;
+    if (listed.code != SHAMIR_DONE) {
+        drilling->answer = listed;
+        return 0;
+    }
+    if (drilling->number == 0) {
+        drilling->answer = shamir_quorums(drilling->lines, drilling->lines_bytes);
+        drilling->quorums = drilling->answer.first;
+    }
+    drilling->at = 0;
+    drilling->end = (size_t)listed.second;
+    /* The last line is "end", or it begins with "more after". */
+    drilling->is_last = drilling->text[drilling->end] == 'e';
+    return drilling->answer.code == SHAMIR_DONE && drilling->end > 0;
+}
+
+/* Goes on to the next quorum of a drill. */
+SHAMIR_INLINE SHAMIR_STRUCT(1) int shamir_drill_next(shamir_drilling *drilling)
+{
+    size_t count = 0;
+
+    if (drilling->at == drilling->end && (drilling->is_last || !shamir_drill_list(drilling))) {
+        return 0;
+    }
+    while (drilling->text[drilling->at] != ' ') {
+        drilling->names[count++] = drilling->text[drilling->at++];
+    }
+    drilling->names[count] = '\0';
+    drilling->as_expected = strncmp(drilling->text + drilling->at, " as expected\n", 13) == 0;
+    while (drilling->text[drilling->at++] != '\n') {
+    }
+    drilling->number++;
+    return 1;
+}
 
 #ifdef __cplusplus
 }

@@ -319,6 +319,13 @@ struct Judgement {
     Name name() const noexcept { return {share.group_index, share.member_index}; }
 };
 
+/* The text of what a mnemonic is: the status, after a line "again" if its share is there already; or the message of the refusal, and a
+   line feed. */
+inline std::string to_text(const Answer<Judgement> &found)
+{
+    return found ? (found->again ? "again\n" : "") + to_text(found->status) : found.error().message() + "\n";
+}
+
 /* Set the extendable flag of a new backup, unless a wallet that has to read it doesn't know the flag. */
 struct CreateOptions {
     Text passphrase = {};
@@ -570,18 +577,27 @@ public:
     Answer<Judgement> add(Text mnemonic)
     {
         auto found = judge(all_, mnemonic);
-        if (!found || found->again) {
-            return found;
+        if (found && !found->again) {
+            const auto respelled = repair(mnemonic);
+            if (!respelled) {
+                return respelled.error();
+            }
+            of_.reserve(of_.size() + 1);
+            all_.add(respelled->lines()[0]);
+            of_.push_back(found->share.id);
         }
-        const auto respelled = repair(mnemonic);
-        if (!respelled) {
-            return respelled.error();
+        if (found) {
+            last_ = found->share.id;
+            enough_ = found->status.enough();
         }
-        of_.reserve(of_.size() + 1);
-        all_.add(respelled->lines()[0]);
-        of_.push_back(found->share.id);
         return found;
     }
+
+    /* Whether the backup of the mnemonic that came last has enough for a recovery. A mnemonic that is refused changes nothing. */
+    bool enough() const noexcept { return enough_; }
+
+    /* Recovers the secret from the mnemonics of that backup. */
+    Answer<Secret> recover(const RecoverOptions &options = {}) const { return shamir::recover(lines(last_), options); }
 
     /* The identifiers of the backups, in the order in which they came. */
     std::vector<std::uint16_t> ids() const
@@ -612,6 +628,8 @@ private:
     Mnemonics all_;
     /* The identifier of each line. */
     std::vector<std::uint16_t> of_;
+    std::uint16_t last_ = 0;
+    bool enough_ = false;
 };
 
 inline Answer<std::string> fingerprint(Bytes secret)

@@ -182,6 +182,16 @@ void check_papers()
     expect("a paper with another word", held.add("academic x").error().word() == 2);
     expect("identifiers", held.ids() == std::vector<std::uint16_t>{7945, 1});
     expect("lines", shamir::Text(held.lines(1)) == shamir::Text(papers({3, 0})) && shamir::Text(held.lines(2)).empty());
+    const shamir::RecoverOptions noted{key, "df41d8fe"};
+    expect("too few papers", !held.enough() && held.add(lines[1]) && held.enough());
+    const auto found = held.recover(noted);
+    expect("papers that are enough", found && std::equal(found->begin(), found->end(), secret.begin(), secret.end()));
+    expect("the backup of the last paper", held.add(alone) && held.enough() && held.recover(noted) && !held.recover({"x", "df41d8fe"})
+        && held.add(lines[0]) && held.enough() && held.recover(noted));
+    expect("no papers", !shamir::Papers().enough() && shamir::Papers().recover().error().code == SHAMIR_E_NO_SHARES);
+    expect("what is told of papers", shamir::to_text(held.add("academic x")) == "11 unknown word 2\n"
+        && shamir::to_text(held.add(alone)) == "again\ngroups 1 of 1\ngroup 0 members 1 of 1 0.0\n"
+        && shamir::to_text(shamir::judge("", lines[0])) == "groups 0 of 2\ngroup 0 members 1 of 2 0.0\n");
     shamir::Papers spelled;
     expect("a long line", spelled.add(spaced) && spelled.add(lines[4]) && shamir::Text(spelled.lines(1)) == shamir::Text(papers({3, 4})));
 }

@@ -1,7 +1,7 @@
 /** What the package adds to the engine: its loader, refusals that were cloned, and the engine in a worker. */
 import assert from "node:assert/strict";
 import test from "node:test";
-import { Code, open, Papers, Refusal, refusalOf } from "../index.js";
+import { Code, drillWithProgress, open, Papers, Refusal, refusalOf } from "../index.js";
 import { InWorker } from "../worker.js";
 import { CONFLICTING, ENCRYPTED, EXTENDABLE, FIVE, FIVE_QUORUMS, ONE, PLAN, SECRET, SPLIT_ANEW, TWO, TWO_SECRET } from "./given.js";
 import { bytesOf, counting, refused } from "./given.js";
@@ -55,6 +55,69 @@ test("a refused paper isn't kept, and others are kept in the spelling of the eng
   assert.throws(() => papers.add(7), TypeError);
   papers.add(FIVE[1]);
   assert.deepEqual(papers.lines(1), FIVE.slice(0, 2).map(bytesOf));
+});
+
+test("papers are enough for the backup of the last one", async () => {
+  const papers = new Papers(await open(MODULE));
+  assert.equal(papers.enough, false);
+  refused(29, null, [0, 0], () => papers.recover());
+  for (const [paper, told, isEnough] of [
+    [FIVE[3], "groups 1 of 2\ngroup 1 members 1 of 1 1.0", false],
+    [ONE, "groups 1 of 1\ngroup 0 members 1 of 1 0.0", true],
+    ["academic x", "11 unknown word 2", true],
+    [bytesOf(TWO[0]), "groups 0 of 1\ngroup 0 members 1 of 2 0.2", false],
+    [FIVE[4], "groups 2 of 2\ngroup 1 members 1 of 1 1.0\ngroup 2 members 1 of 1 2.0", true],
+    [ONE, "again\ngroups 1 of 1\ngroup 0 members 1 of 1 0.0", true],
+  ]) {
+    assert.deepEqual([papers.addAndTell(paper), papers.enough], [told, isEnough]);
+    if (isEnough) assert.deepEqual(papers.recover({ ...KEY, expect: "df41d8fe" }), SECRET);
+    else assert.throws(() => papers.recover(KEY), { code: 30 });
+  }
+  assert.throws(() => papers.recover({ expect: "df41d8fe" }), { code: 52 });
+  assert.throws(() => papers.addAndTell(7), TypeError);
+  papers.clear();
+  assert.equal(papers.enough, false);
+  refused(29, null, [0, 0], () => papers.recover());
+});
+
+test("papers are collected until there are enough", async () => {
+  const shamir = await open(MODULE);
+  async function* coming() {
+    yield* [TWO[0], FIVE[3], FIVE[3].toUpperCase(), "academic x", FIVE[4], ONE];
+  }
+  const first = "groups 1 of 2\ngroup 1 members 1 of 1 1.0";
+  const wanted = ["groups 0 of 1\ngroup 0 members 1 of 2 0.2", first, `again\n${first}`, "11 unknown word 2", `${first.replace("1", "2")}\ngroup 2 members 1 of 1 2.0`];
+  for (const lines of [coming(), [TWO[0], FIVE[3], bytesOf(FIVE[3].toUpperCase()), "academic x", FIVE[4], ONE]]) {
+    const [papers, found] = [new Papers(shamir), []];
+    for await (const told of papers.collect(lines)) found.push(told);
+    assert.deepEqual([found, papers.ids, papers.enough], [wanted, [25653, 1], true]);
+    assert.deepEqual(papers.recover({ ...KEY, expect: "df41d8fe" }), SECRET);
+  }
+  const papers = new Papers(shamir);
+  for await (const told of papers.collect([FIVE[3]])) assert.equal(told, first);
+  assert.equal(papers.enough, false);
+});
+
+test("a drill with its progress", async () => {
+  const shamir = await open(MODULE);
+  const wanted = FIVE_QUORUMS.map((names, i) => ({ names, secret: null, fingerprint: null, expected: true, mismatch: null, number: i + 1, quorums: 7n }));
+  const found = async (lines, options) => {
+    const outcomes = [];
+    for await (const outcome of drillWithProgress(shamir, lines, options)) outcomes.push(outcome);
+    return outcomes;
+  };
+  const options = { ...KEY, expect: "df41d8fe" };
+  for (const lines of [FIVE, new Set(FIVE).values(), FIVE.join("\n"), bytesOf(FIVE.join("\n"))]) assert.deepEqual(await found(lines, options), wanted);
+  // The numbers are those of the outcomes that this drill gives.
+  assert.deepEqual(await found(FIVE, { ...options, after: FIVE_QUORUMS[4] }), wanted.slice(5).map((it, i) => ({ ...it, number: i + 1 })));
+  await assert.rejects(found(FIVE.slice(3, 4)), { code: 30 });
+  await assert.rejects(found(7), TypeError);
+  // Another task stops it. Of 16 members, 12,870 sets have 8.
+  let [isStopped, last] = [false, null];
+  setTimeout(() => (isStopped = true), 1);
+  for await (last of drillWithProgress(shamir, shamir.create("8of16", SECRET), { fingerprints: true })) if (isStopped) break;
+  assert.ok(isStopped && last.number < 12870);
+  assert.deepEqual([last.fingerprint, last.quorums], ["df41d8fe", 12870n]);
 });
 
 test("each call in a worker", async () => {

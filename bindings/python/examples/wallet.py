@@ -1,8 +1,6 @@
 """Four clients of the library. The first line of standard input is the passphrase, except for `repair`. Papers are the lines after it, or
-those of a file. FINGERPRINT is what `make` told. Ctrl-C stops a drill.
-
-To stay short, it shows what is typed, and clears nothing. A wallet hides the passphrase, and uses `recover_into` and bytearrays.
-"""
+those of a file. FINGERPRINT is what `make` told. Ctrl-C stops a drill. To stay short, it shows what is typed, and clears nothing. A wallet
+hides the passphrase, and uses `recover_into` and bytearrays."""
 import os
 import signal
 import sys
@@ -21,21 +19,16 @@ def make(passphrase: str, plan: str) -> None:
 def recover(passphrase: str, noted: str) -> None:
     papers = shamir.Papers()
     for paper in sys.stdin:
-        try:
-            found = papers.add(paper.strip())
-        except shamir.Refusal as refusal:
-            print(refusal)
-            continue
-        print(f"again\n{found.status}" if found.again else found.status)
-        if found.status.enough:
-            secret = shamir.recover(papers.lines(found.share.id), passphrase=passphrase, expect=noted)
-            return print("fingerprint", shamir.fingerprint(secret))
+        print(papers.add_and_tell(paper.strip()))
+        if papers.enough:
+            return print("fingerprint", shamir.fingerprint(papers.recover(passphrase=passphrase, expect=noted)))
     sys.exit("more papers are needed")
 
 
 def drill(passphrase: str, noted: str, file: str) -> None:
     papers = open(file).read()
-    quorums, stopped = shamir.quorums(papers), threading.Event()
+    quorums = shamir.quorums(papers)
+    stopped = threading.Event()
     signal.signal(signal.SIGINT, lambda *_: stopped.set())
     for number, outcome in enumerate(shamir.drill(papers, passphrase=passphrase, expect=noted), 1):
         print(f"{number} of {quorums}: {outcome.names} {'as expected' if outcome.expected else 'NOT as expected'}", flush=True)

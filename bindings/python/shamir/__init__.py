@@ -446,11 +446,17 @@ class Status:
 
 @dataclass(frozen=True)
 class Judgement:
-    """What a mnemonic is beside others: its fields, whether its share is `again` among them, and the status of its backup with it."""
+    """What a mnemonic is beside others: its fields, whether its share is `again` among them, and the status of its backup with it.
+
+    `str` gives that of the status, after a line `again` if the share is among them.
+    """
 
     share: ShareFields
     again: bool
     status: Status
+
+    def __str__(self) -> str:
+        return f"again\n{self.status}" if self.again else str(self.status)
 
 
 def _data(data: Data) -> bytes:
@@ -946,9 +952,13 @@ class Papers:
 
     >>> papers = shamir.Papers()
     >>> for mnemonic in mnemonics[:2]:
-    ...     found = papers.add(mnemonic)
-    >>> shamir.recover(papers.lines(found.share.id), passphrase="TREZOR") == secret
-    True
+    ...     print(papers.add_and_tell(mnemonic))
+    groups 0 of 1
+    group 0 members 1 of 2 0.0
+    groups 1 of 1
+    group 0 members 2 of 2 0.0+0.1
+    >>> papers.enough, papers.recover(passphrase="TREZOR") == secret
+    (True, True)
 
     If the first papers are of another backup than the rest, they stay apart from it. The lines are bytearrays, which `clear` and the
     end of a `with` block clear. A str that is added can't be cleared.
@@ -956,6 +966,8 @@ class Papers:
 
     def __init__(self) -> None:
         self._kept: List[Tuple[int, bytearray]] = []
+        # What the mnemonic that came last is.
+        self._last: Optional[Judgement] = None
 
     def __enter__(self) -> Papers:
         return self
@@ -972,7 +984,28 @@ class Papers:
         found = judge((line for _, line in self._kept), data)
         if not found.again:
             self._kept.append((found.share.id, _respelled(data)))
+        self._last = found
         return found
+
+    def add_and_tell(self, mnemonic: Text) -> str:
+        """Do as `add`, and return the text of the judgement, or of the refusal, which isn't raised."""
+        try:
+            return str(self.add(mnemonic))
+        except Refusal as refusal:
+            return str(refusal)
+
+    @property
+    def enough(self) -> bool:
+        """Whether the backup of the mnemonic that came last has enough for `recover`. A mnemonic that is refused changes nothing."""
+        return self._last is not None and self._last.status.enough
+
+    def recover(self, *, passphrase: Text = b"", max_exponent: int = EXPONENT_MAX, expect: Optional[Text] = None) -> bytes:
+        """Recover the secret of the backup of the mnemonic that came last, as the function `recover` does.
+
+        Like that function, it leaves copies of the mnemonics behind. `recover_into` of `lines` leaves none.
+        """
+        lines = self.lines(self._last.share.id) if self._last else []
+        return recover(lines, passphrase=passphrase, max_exponent=max_exponent, expect=expect)
 
     @property
     def ids(self) -> List[int]:
@@ -988,7 +1021,7 @@ class Papers:
         """Clear all lines, and forget them."""
         for _, line in self._kept:
             _library.shamir_wipe(*_room(line))
-        self._kept = []
+        self._kept, self._last = [], None
 
 
 def _respelled(mnemonic: Data) -> bytearray:

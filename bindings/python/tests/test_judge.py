@@ -63,6 +63,8 @@ class Judgements(unittest.TestCase):
     def test_the_text_of_a_status(self):
         self.assertEqual(str(shamir.status(TWO[:1])), "groups 0 of 1\ngroup 0 members 1 of 2 0.2")
         self.assertEqual(str(shamir.status(FIVE).groups[0]), "group 0 members 3 of 2 0.0+0.1+0.2")
+        self.assertEqual(str(shamir.judge(FIVE[:1], TWO[0])), "groups 0 of 1\ngroup 0 members 1 of 2 0.2")
+        self.assertEqual(str(shamir.judge(TWO[:1], TWO[0])), "again\ngroups 0 of 1\ngroup 0 members 1 of 2 0.2")
 
 
 class Papers(unittest.TestCase):
@@ -80,6 +82,30 @@ class Papers(unittest.TestCase):
         self.assertEqual(papers.add(FIVE[4]).status, shamir.status(papers.lines(ID)))
         room = bytearray(128)
         self.assertEqual(room[: shamir.recover_into(room, papers.lines(ID), passphrase=b"TREZOR")], SECRET)
+
+    def test_the_backup_of_the_last_paper(self):
+        papers, noted = shamir.Papers(), {"passphrase": "TREZOR", "expect": "df41d8fe"}
+        self.assertEqual((papers.enough, refusal_of(papers.recover).code), (False, 29))
+        for paper, told, is_enough in [
+            (FIVE[3], "groups 1 of 2\ngroup 1 members 1 of 1 1.0", False),
+            (ONE, "groups 1 of 1\ngroup 0 members 1 of 1 0.0", True),
+            ("academic x", "11 unknown word 2", True),
+            (TWO[0].encode(), "groups 0 of 1\ngroup 0 members 1 of 2 0.2", False),
+            (FIVE[4], "groups 2 of 2\ngroup 1 members 1 of 1 1.0\ngroup 2 members 1 of 1 2.0", True),
+        ]:
+            self.assertEqual((papers.add_and_tell(paper), papers.enough), (told, is_enough))
+            if is_enough:
+                self.assertEqual(papers.recover(**noted), SECRET)
+                self.assertEqual(refusal_of(papers.recover, passphrase="x", expect="df41d8fe").code, 52)
+            else:
+                self.assertEqual(refusal_of(papers.recover).code, 30)
+        self.assertEqual(papers.add_and_tell(bytearray(ONE.encode())), "again\ngroups 1 of 1\ngroup 0 members 1 of 1 0.0")
+        self.assertEqual(papers.recover(**noted), SECRET)
+        self.assertEqual(papers.add_and_tell(TWO[1]), "groups 1 of 1\ngroup 0 members 2 of 2 0.0+0.2")
+        self.assertEqual(refusal_of(papers.recover, max_exponent=1).code, 3)
+        self.assertRaises(TypeError, papers.add_and_tell, 7)
+        papers.clear()
+        self.assertEqual((papers.enough, refusal_of(papers.recover).code), (False, 29))
 
     def test_a_refused_paper_is_not_kept(self):
         papers = shamir.Papers()

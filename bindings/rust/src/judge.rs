@@ -1,4 +1,6 @@
 //! What a mnemonic is beside others.
+use core::fmt;
+
 use crate::error::Error;
 use crate::ffi::{self, Judged};
 use crate::share::ShareFields;
@@ -14,9 +16,12 @@ use crate::text::Text;
 /// let line = "shadow pistol academic always adequate wildlife fancy gross oasis cylinder mustang wrist rescue view short owner flip making coding armed";
 /// let judgement = judge(line, line)?;
 /// assert_eq!((judgement.share.id, judgement.again, judgement.status.is_enough()), (25653, true, false));
+/// assert_eq!(judgement.to_string(), "again\ngroups 0 of 1\ngroup 0 members 1 of 2 0.2");
 /// # Ok(())
 /// # }
 /// ```
+///
+/// `Display` writes the status, after a line `again` if the share is among the others already.
 #[derive(Clone, Copy, Debug, PartialEq, Eq, Hash)]
 #[non_exhaustive]
 pub struct Judgement {
@@ -26,6 +31,12 @@ pub struct Judgement {
     pub again: bool,
     /// What its backup has with it.
     pub status: Status,
+}
+
+impl fmt::Display for Judgement {
+    fn fmt(&self, formatter: &mut fmt::Formatter<'_>) -> fmt::Result {
+        write!(formatter, "{}{}", if self.again { "again\n" } else { "" }, self.status)
+    }
 }
 
 /// Judges a mnemonic beside those that came before it: whether it can be taken, whether it is there already, and what its backup has

@@ -28,7 +28,7 @@
 //!
 //! A group is complete if the number of its members at hand is at least its member threshold. Mnemonics are enough if the number of
 //! complete groups is at least the group threshold. A quorum is a minimal set of mnemonics that is enough. A drill (`Drill`) tries
-//! every quorum. `Papers` takes mnemonics as they come, and keeps those of each backup apart.
+//! every quorum. `Papers` takes mnemonics as they come, keeps those of each backup apart, and recovers from them.
 //!
 //! A mnemonic has a value. The values of the members of a group combine to a group share, and the group shares combine to the
 //! encrypted secret. A digest is four bytes by which the library usually detects values that don't belong together.

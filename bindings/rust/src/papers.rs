@@ -1,11 +1,14 @@
 //! Mnemonics of several backups, kept apart.
+use alloc::string::{String, ToString};
 use alloc::vec::Vec;
 use core::fmt;
 
 use crate::error::Error;
 use crate::judge::{Judgement, judge};
 use crate::mnemonics::Mnemonics;
+use crate::recover::{RecoverOptions, recover};
 use crate::repair::repair;
+use crate::secret::Secret;
 
 /// Mnemonics as they come, one after the other, of one backup or of several. The library decides about each.
 ///
@@ -13,7 +16,7 @@ use crate::repair::repair;
 /// there are. They are cleared when they are dropped.
 ///
 /// ```
-/// use shamir::{Papers, RecoverOptions, recover};
+/// use shamir::{Papers, RecoverOptions};
 ///
 /// # fn main() -> Result<(), shamir::Error> {
 /// # let of_another_backup = "duckling enlarge academic academic agency result length solution fridge kidney coal piece deal husband erode duke ajar critical decision keyboard";
@@ -21,10 +24,10 @@ use crate::repair::repair;
 /// # let other = "shadow pistol academic always adequate wildlife fancy gross oasis cylinder mustang wrist rescue view short owner flip making coding armed";
 /// let mut papers = Papers::new();
 /// for paper in [of_another_backup, one, other] {
-///     let found = papers.add(paper)?;
-///     println!("{} of {} groups of {}", found.status.complete, found.status.required, found.share.id);
+///     println!("{}", papers.add_and_tell(paper));
 /// }
-/// let secret = recover(papers.lines(25653), &RecoverOptions::new().passphrase("TREZOR"))?;
+/// assert!(papers.is_enough());
+/// let secret = papers.recover(&RecoverOptions::new().passphrase("TREZOR"))?;
 /// assert_eq!((secret.as_bytes().len(), papers.ids().count()), (16, 2));
 /// # Ok(())
 /// # }
@@ -35,6 +38,8 @@ pub struct Papers {
     /// The identifier of each backup, and its mnemonics, in the order in which the first of each came.
     backups: Vec<(u16, Mnemonics)>,
     none: Mnemonics,
+    /// What the mnemonic that came last is.
+    last: Option<Judgement>,
 }
 
 impl Papers {
@@ -71,7 +76,55 @@ impl Papers {
             self.all.push(&respelled);
             self.backup(judgement.share.id).push(&respelled);
         }
+        self.last = Some(judgement);
         Ok(judgement)
+    }
+
+    /// Adds a mnemonic as [`add`](Papers::add) does, and gives the text of the judgement, or of the error.
+    ///
+    /// ```
+    /// # let line = "duckling enlarge academic academic agency result length solution fridge kidney coal piece deal husband erode duke ajar critical decision keyboard";
+    /// let mut papers = shamir::Papers::new();
+    /// assert_eq!(papers.add_and_tell("academic shamir"), "11 unknown word 2");
+    /// assert_eq!(papers.add_and_tell(line), "groups 1 of 1\ngroup 0 members 1 of 1 0.0");
+    /// ```
+    pub fn add_and_tell(&mut self, mnemonic: impl AsRef<[u8]>) -> String {
+        self.add(mnemonic).map_or_else(|error| error.to_string(), |judgement| judgement.to_string())
+    }
+
+    /// Whether the backup of the mnemonic that came last has enough for a recovery. A mnemonic that is refused changes nothing.
+    ///
+    /// ```
+    /// # fn main() -> Result<(), shamir::Error> {
+    /// # let line = "duckling enlarge academic academic agency result length solution fridge kidney coal piece deal husband erode duke ajar critical decision keyboard";
+    /// let mut papers = shamir::Papers::new();
+    /// assert!(!papers.is_enough());
+    /// papers.add(line)?;
+    /// assert!(papers.is_enough());
+    /// # Ok(())
+    /// # }
+    /// ```
+    #[must_use]
+    pub fn is_enough(&self) -> bool {
+        self.last.is_some_and(|judgement| judgement.status.is_enough())
+    }
+
+    /// Recovers the secret of the backup of the mnemonic that came last, as [`recover`](crate::recover()) does.
+    ///
+    /// ```
+    /// use shamir::{Error, Papers, RecoverOptions};
+    ///
+    /// # fn main() -> Result<(), Error> {
+    /// # let line = "duckling enlarge academic academic agency result length solution fridge kidney coal piece deal husband erode duke ajar critical decision keyboard";
+    /// let mut papers = Papers::new();
+    /// assert_eq!(papers.recover(&RecoverOptions::new()), Err(Error::NoShares));
+    /// papers.add(line)?;
+    /// assert!(papers.recover(&RecoverOptions::new().passphrase("TREZOR").expected("df41d8fe")).is_ok());
+    /// # Ok(())
+    /// # }
+    /// ```
+    pub fn recover(&self, options: &RecoverOptions<'_>) -> Result<Secret, Error> {
+        recover(self.last.map_or(&self.none, |judgement| self.lines(judgement.share.id)), options)
     }
 
     /// Gives the identifiers of the backups, in the order in which they came.

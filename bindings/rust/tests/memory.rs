@@ -138,6 +138,7 @@ mod in_heap {
         };
         assert_eq!(left_by(kept), 0);
         assert_eq!(left_by(|| kept().add(ONE)), 0);
+        assert_eq!(left_by(|| kept().recover(&trezor()).unwrap()), 0);
     }
 
     #[test]

@@ -56,6 +56,27 @@ fn papers_are_kept_by_their_backup() {
 }
 
 #[test]
+fn papers_are_enough_for_the_backup_of_the_last_one() {
+    let (mut papers, noted) = (Papers::new(), trezor().expected("df41d8fe"));
+    assert_eq!((papers.is_enough(), papers.recover(&noted)), (false, Err(Error::NoShares)));
+    for (paper, told, is_enough) in [
+        (FIVE[3], "groups 1 of 2\ngroup 1 members 1 of 1 1.0", false),
+        (ONE, "groups 1 of 1\ngroup 0 members 1 of 1 0.0", true),
+        ("academic x", "11 unknown word 2", true),
+        (TWO[0], "groups 0 of 1\ngroup 0 members 1 of 2 0.2", false),
+        (FIVE[4], "groups 2 of 2\ngroup 1 members 1 of 1 1.0\ngroup 2 members 1 of 1 2.0", true),
+        (ONE, "again\ngroups 1 of 1\ngroup 0 members 1 of 1 0.0", true),
+    ] {
+        assert_eq!((papers.add_and_tell(paper).as_str(), papers.is_enough()), (told, is_enough));
+        match papers.recover(&noted) {
+            Ok(secret) => assert!(is_enough && digits(secret.as_bytes()) == ONE_SECRET),
+            Err(error) => assert!(!is_enough && error.code() == 30),
+        }
+    }
+    assert_eq!(papers.recover(&noted.passphrase("x")), Err(Error::OtherSecret));
+}
+
+#[test]
 fn a_refused_paper_is_not_kept() {
     let mut papers = Papers::new();
     papers.add(FIVE[0]).unwrap();

@@ -1,0 +1,40 @@
+/** Drills that say how far they are. */
+
+/** @typedef {import("./shamir.js").Engine} TheEngine */
+/** @typedef {import("./types.js").DrillOptions} DrillOptions */
+/** @typedef {import("./types.js").Lines} Lines */
+/** @typedef {import("./types.js").Outcome} Outcome */
+/** @typedef {Outcome & { number: number, quorums: bigint }} NumberedOutcome */
+
+// After this time, other tasks of the host run.
+const TURN_MILLISECONDS = 10;
+
+/**
+ * Yields the outcomes of `drill` of the engine, each with its `number`, from 1, and with what `quorums` of the engine counts.
+ *
+ *     for await (const { names, number, quorums } of drillWithProgress(shamir, mnemonics, { passphrase: "TREZOR" })) {
+ *       console.log(`${number} of ${quorums}: ${names}`);
+ *       if (stopped) break;
+ *     }
+ *
+ * Between outcomes, other tasks of the host run, such as one that stops the drill. While the engine decrypts, they run only if it is in a
+ * worker. The arguments are looked at at the first `next`, which then throws any refusal.
+ * @param {TheEngine} engine
+ * @param {Lines} lines
+ * @param {DrillOptions} [options]
+ * @returns {AsyncGenerator<NumberedOutcome, void, void>}
+ */
+export async function* drillWithProgress(engine, lines, options = {}) {
+  const given = typeof lines === "string" || lines instanceof Uint8Array ? lines : [...lines];
+  let number = 0;
+  let quorums = 0n;
+  let start = Date.now();
+  for (const outcome of engine.drill(given, options)) {
+    if (number === 0) quorums = engine.quorums(given);
+    number++;
+    yield { ...outcome, number, quorums };
+    if (Date.now() - start < TURN_MILLISECONDS) continue;
+    await new Promise((done) => setTimeout(done));
+    start = Date.now();
+  }
+}
