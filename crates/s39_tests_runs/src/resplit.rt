@@ -121,13 +121,14 @@ fn refused_in_order(rt: HostRuntime) -> Result<(), Fail> {
 fn new_mnemonics_in_two_steps(rt: HostRuntime) -> Result<(), Fail> {
     let plan = Plan::parse(PLAN)?;
     let encrypted = encrypted_in(OLD)?;
+    let (params, bytes) = (encrypted.params, encrypted.bytes.as_slice());
     let mut text = [0; 800];
-    let put = lines_from_encrypted(&plan, encrypted.params, &encrypted.bytes, RANDOM, &mut text)?;
+    let put = lines_from_encrypted(&plan, params, bytes, RANDOM, &mut text)?;
     assert_eq!(rt; (put.written, put.lines), (NEW.len(), 5));
     assert!(rt; text.starts_with(NEW));
 
     let mut text = [7; 100];
-    match lines_from_encrypted(&plan, encrypted.params, &encrypted.bytes, RANDOM, &mut text) {
+    match lines_from_encrypted(&plan, params, bytes, RANDOM, &mut text) {
         Err(Unwritten::TooShort(short)) => {
             assert_eq!(rt; short.needed, NEW.len());
         }
@@ -140,13 +141,12 @@ fn new_mnemonics_in_two_steps(rt: HostRuntime) -> Result<(), Fail> {
 // The number of bytes is judged first, whatever the flag and the random bytes are.
 #[test]
 fn encrypted_refused_in_order(rt: HostRuntime) -> Result<(), Fail> {
-    let bytes = [9; 17];
     let rows: [(bool, &[u8], &[u8], u8, u64); 5] = [
-        (false, &bytes, b"", 42, 17),
-        (true, &bytes[..14], b"\x16\x20", 42, 14),
-        (false, &bytes[..16], b"", 67, 0),
-        (true, &bytes[..16], b"\x16\x20\x00", 43, 2),
-        (true, &bytes[..16], b"\x96\x20", 68, 0),
+        (false, &[9; 17], b"", 42, 17),
+        (true, &[9; 14], b"\x16\x20", 42, 14),
+        (false, &[9; 16], b"", 67, 0),
+        (true, &[9; 16], b"\x16\x20\x00", 43, 2),
+        (true, &[9; 16], b"\x96\x20", 68, 0),
     ];
     let plan = Plan::parse("1of1")?;
     for (extendable, encrypted, random, code, first) in rows {
