@@ -609,8 +609,8 @@ shamir_answer shamir_resplit(
  * Creates a backup of the encrypted secret of an extendable backup, by a plan, and gives its mnemonics.
  *
  * plan          the text of the plan, as for shamir_random_needed
- * parameters, encrypted
- *               what shamir_encrypted gave
+ * parameters    those that shamir_encrypted gave
+ * encrypted     the encrypted secret that it gave with them
  * random        exactly as many bytes as shamir_random_needed says for this plan and encrypted_bytes; they must be unpredictable, and no
  *               other backup may use them
  * mnemonics     the output: the mnemonics in the order of groups and members, with a line feed after each; an output buffer of

@@ -1,5 +1,5 @@
 -- A split anew is a creation from the encrypted secret of the lines.
-use Rattle.std.proofs.Common.{◌≡◌, ◌↔◌, ℕ, List, [], ◌++◌, length, take, drop, refl, sym, ap, ap₂, subst, ◌∙◌, inl, inr, arith, Result, Ok, Err}
+use Rattle.std.proofs.Common.{◌≡◌, ◌↔◌, ℕ, List, [], length, take, drop, sym, ap, subst, ◌∙◌, inl, inr, arith, Result, Ok, Err}
 use Rattle.std.proofs.lemmas.List.{take-append-le, take_all}
 use Rattle.s39_kdf.specs.declared.params.Params.{Params}
 use Rattle.s39_kdf.specs.Limits.{IsSecretLength}
@@ -21,7 +21,7 @@ use Rattle.s39_input.specs.declared.fault.Refusal.TheVariants.{Lack, DigestMisma
 use Rattle.s39_input.specs.declared.fault.Stop.{Stop}
 use Rattle.s39_input.specs.declared.fault.Fault.{Fault}
 use Rattle.s39_input.specs.Accepted.{IsReadAs}
-use Rattle.s39_input.specs.Fault.{fault_of, fault_of_stop, fault_of_resplit}
+use Rattle.s39_input.specs.Fault.{cause_of, fault_of, fault_of_stop, fault_of_resplit}
 use Rattle.s39_input.specs.Input.{Input, whole}
 use Rattle.s39_input.specs.Steps.{Then, gives, refuses}
 use Rattle.s39_creating.specs.Reissue.{AreWritten}
@@ -29,8 +29,8 @@ use Rattle.s39_creating.specs.Resplit.{AreFromEncrypted, IsOutputFromEncrypted, 
 use Rattle.s39_reading.specs.Encrypted.{IsEncryptedIn, IsEncryptedOf}
 use Rattle.s39_c.specs.declared.answer.ShamirAnswer.{ShamirAnswer}
 use Rattle.s39_c.specs.declared.encrypted.ShamirParameters.{ShamirParameters}
-use Rattle.s39_c.specs.Answers.{done, refused, too_short}
-use Rattle.s39_c.specs.Encrypted.{parameters_of, AreParameters, GivesEncrypted}
+use Rattle.s39_c.specs.Answers.{done, refused}
+use Rattle.s39_c.specs.Encrypted.{parameters_of, GivesEncrypted}
 use Rattle.s39_c.specs.Resplitting.{GivesFromEncrypted, GivesSplit}
 use Rattle.s39_c.proofs.OneDecryption.{parameters_once}
 use Rattle.s39_c.proofs.Outputs.{split_weaker}
@@ -174,7 +174,7 @@ module _ (once : (set : List ShareFields) (names others : Names) → IsLeastQuor
 -- the code of a refusal isn't 0
 not_done : (n : ℕ) (fault : Fault) → done n ≡ refused fault → ⊥
 not_done n fault same =
-    let code : 0 ≡ (refused fault).code = ap (λ (a : ShamirAnswer). a.code) same in absurd (omega (arith, above fault.refusal, code))
+    let code : 0 ≡ (cause_of fault.refusal).code = ap (λ (a : ShamirAnswer). a.code) same in absurd (omega (arith, above fault.refusal, code))
 
 -- what a call gives that writes an encrypted secret
 module _ (lines : List ℕ) (before after : ShamirParameters) (buffer filled : List ℕ) (n : ℕ) where
