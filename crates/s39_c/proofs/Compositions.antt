@@ -1,5 +1,5 @@
 -- A split anew is a creation from the encrypted secret of the lines.
-use Rattle.std.proofs.Common.{◌≡◌, ◌↔◌, ℕ, List, [], length, take, drop, sym, ap, subst, ◌∙◌, inl, inr, arith, Result, Ok, Err}
+use Rattle.std.proofs.Common.{◌≡◌, ◌↔◌, ◌≤◌, ℕ, List, [], length, take, drop, sym, ap, subst, ◌∙◌, inl, inr, arith, Result, Ok, Err}
 use Rattle.std.proofs.lemmas.List.{take-append-le, take_all}
 use Rattle.s39_kdf.specs.declared.params.Params.{Params}
 use Rattle.s39_kdf.specs.Limits.{IsSecretLength}
