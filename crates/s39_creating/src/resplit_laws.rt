@@ -1,4 +1,5 @@
-//! What `resplit` writes, and what is written of an encrypted secret: facts about the definitions. Each is the contract of a function that does nothing.
+//! What `resplit` writes, and what is written of an encrypted secret: facts about the definitions. Each is the contract of a
+//! function that does nothing.
 ghost use Rattle.std.specs.Prelude.{◌≡◌, ◌≤◌, ℕ, List, All, Result, Ok, length};
 ghost use Rattle.s39_kdf.specs.declared.params.Params.{Params};
 ghost use Rattle.s39_kdf.specs.Bytes.{AreBytes};
