@@ -2,8 +2,8 @@
  * shamir.h: SLIP-0039 backups of a master secret, for C and C++. The manual page shamir(3) is made of these comments.
  *
  * The library creates backups, reads and judges mnemonics, recovers secrets and runs drills. It also reports whether mnemonics are
- * enough for a recovery, counts quorums, gives and decrypts encrypted secrets, computes lost mnemonics and fingerprints of secrets, splits a
- * backup anew by another plan, finds words that can't be read, and lists words of the word list. docs/LIBRARY.md introduces it with
+ * enough for a recovery, counts quorums, gives and decrypts encrypted secrets and creates backups of them, computes lost mnemonics and
+ * fingerprints of secrets, splits a backup anew by another plan, finds words that can't be read, and lists words of the word list. docs/LIBRARY.md introduces it with
  * examples.
  *
  * A backup consists of mnemonics, which are lines of words. A mnemonic spells a share, which has fields and a value: the bytes
@@ -194,8 +194,8 @@ typedef enum shamir_code {
  * line is the number of the refused line, counted from 1, for the codes 11 to 28 and 71 of calls that take lines. Otherwise
  * it is 0. Only shamir_drill sets the field "mismatches"; in answers of other calls this field is 0. first and second are the
  * details of a refusal. After success, first is a result of shamir_random_needed, shamir_create, shamir_drill, shamir_status,
- * shamir_judge, shamir_quorums, shamir_resplit and shamir_repair, and second of shamir_drill, shamir_status and shamir_judge.
- * Otherwise they are 0.
+ * shamir_judge, shamir_quorums, shamir_resplit, shamir_create_from_encrypted and shamir_repair, and second of shamir_drill,
+ * shamir_status and shamir_judge. Otherwise they are 0.
  */
 typedef struct shamir_answer {
     uint32_t code;       /* a shamir_code: SHAMIR_DONE, or the cause of the refusal */
@@ -657,6 +657,37 @@ SHAMIR_CALL
 shamir_answer shamir_resplit(
     const char *plan, size_t plan_bytes, const char *lines, size_t lines_bytes, const uint8_t *random, size_t random_bytes, char *mnemonics,
     size_t mnemonics_bytes);
+
+/*
+ * Creates a backup of the encrypted secret of an extendable backup, by a plan, and gives its mnemonics.
+ *
+ * plan          the text of the plan, as for shamir_random_needed
+ * parameters    those that shamir_encrypted gave
+ * encrypted     the encrypted secret that it gave with them
+ * random        exactly as many bytes as shamir_random_needed says for this plan and encrypted_bytes; they must be unpredictable, and no
+ *               other backup may use them
+ * mnemonics     the output: the mnemonics in the order of groups and members, with a line feed after each; an output buffer of
+ *               SHAMIR_MNEMONICS_BYTES_MAX bytes is always enough
+ *
+ * After success, the field first of the answer is the number of mnemonics.
+ *
+ * The call needs no passphrase, and decrypts nothing. With each passphrase, the new backup gives the secret that shamir_decrypt gives
+ * of the encrypted one. shamir_encrypted and this call after it give what shamir_resplit gives: the flag and the exponent stay, and the
+ * identifier changes. So a backup without the flag is refused with 67, and random bytes that give the old identifier with 68.
+ *
+ * If the number of random bytes is wrong, the call refuses with 43, and first is the number, which is at least 2. If mnemonics is too
+ * short, the call refuses with 1, and first is the length of all mnemonics.
+ *
+ * The call refuses with the first of these that applies: 2 (a field of *parameters is out of its range), 31 to 34, 42 (encrypted_bytes),
+ * 67, 43, 68, 1.
+ *
+ *     shamir_answer answer = shamir_create_from_encrypted(
+ *         "3of5", 4, &parameters, encrypted, encrypted_bytes, random, random_bytes, mnemonics, sizeof mnemonics);
+ */
+SHAMIR_CALL SHAMIR_STRUCT(3)
+shamir_answer shamir_create_from_encrypted(
+    const char *plan, size_t plan_bytes, const shamir_parameters *parameters, const uint8_t *encrypted, size_t encrypted_bytes,
+    const uint8_t *random, size_t random_bytes, char *mnemonics, size_t mnemonics_bytes);
 
 /*
  * Finds the mnemonics that fit a line of which some words can't be read, or finds the place of a wrong word.

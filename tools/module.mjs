@@ -61,6 +61,10 @@ const COMMANDS = {
   reissue([plan, names], options, lines) {
     return ended(shamir.reissue(plan, names, lines));
   },
+  create_from_encrypted([plan], { id, extendable = false, exponent, random }, value) {
+    const encrypted = { id: Number(id), extendable, exponent: Number(exponent), value };
+    return ended(shamir.createFromEncrypted(plan, encrypted, { random: new Uint8Array(Buffer.from(random, "hex")) }));
+  },
   resplit([plan], { random }, lines) {
     return ended(shamir.resplit(plan, lines, { random: new Uint8Array(Buffer.from(random, "hex")) }));
   },

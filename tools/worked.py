@@ -475,6 +475,32 @@ SPLIT_ANEW: List[Row] = [
     ("1of1", [OLD_0, OLD_2], bytes.fromhex("a36a"), Answer(68, "same identifier"), []),
 ]
 
+# The mnemonics are those of the backups that are split anew.
+FROM_ENCRYPTED: List[Row] = [
+    ("1of1", OLD_KEPT, OLD_ENCRYPTED, bytes.fromhex("1234"), done(1, 0), [NEW_ONE]),
+    (FIVE_PLAN, OLD_KEPT, OLD_ENCRYPTED, FIVE_RANDOM, done(5, 0), NEW_FIVE),
+    ("1of1", (9066, 1, 15), OLD_ENCRYPTED, bytes.fromhex("1234"), done(1, 0), [HIGH_NEW_ONE]),
+    # The old identifier decides nothing else.
+    ("1of1", (32767, 1, 0), OLD_ENCRYPTED, bytes.fromhex("1234"), done(1, 0), [NEW_ONE]),
+    (None, (32768, 0, 0), None, None, Answer(2, "number out of range"), []),
+    ("1of1", (9066, 2, 0), OLD_ENCRYPTED, bytes.fromhex("1234"), Answer(2, "number out of range"), []),
+    ("1of1", (9066, 1, 16), OLD_ENCRYPTED, bytes.fromhex("1234"), Answer(2, "number out of range"), []),
+    (None, ONE_KEPT, None, None, Answer(31, "bad plan"), []),
+    ("2/2of3", ONE_KEPT, None, None, Answer(32, "bad number of groups in plan"), []),
+    ("17of17", ONE_KEPT, None, None, Answer(33, "bad number of members in plan group 0"), []),
+    ("1of2", ONE_KEPT, None, None, Answer(34, "one of many in plan group 0"), []),
+    ("1of1", ONE_KEPT, None, None, Answer(42, "secret of 0 bytes"), []),
+    ("1of1", OLD_KEPT, SECRET[1:], bytes.fromhex("236a"), Answer(42, "secret of 15 bytes", first=15), []),
+    ("1of1", OLD_KEPT, bytes(130), None, Answer(42, "secret of 130 bytes", first=130), []),
+    ("1of1", ONE_KEPT, ONE_ENCRYPTED, None, Answer(67, "backup isn't extendable"), []),
+    ("1of1", ONE_KEPT, ONE_ENCRYPTED, ONE_RANDOM, Answer(67, "backup isn't extendable"), []),
+    (FIVE_PLAN, OLD_KEPT, OLD_ENCRYPTED, None, Answer(43, "random bytes: 26 needed", first=26), []),
+    (FIVE_PLAN, OLD_KEPT, OLD_ENCRYPTED, bytes(27), Answer(43, "random bytes: 26 needed", first=26), []),
+    ("1of1", OLD_KEPT, OLD_ENCRYPTED, bytes.fromhex("236a00"), Answer(43, "random bytes: 2 needed", first=2), []),
+    ("1of1", OLD_KEPT, OLD_ENCRYPTED, bytes.fromhex("236a"), Answer(68, "same identifier"), []),
+    ("1of1", OLD_KEPT, OLD_ENCRYPTED, bytes.fromhex("a36a"), Answer(68, "same identifier"), []),
+]
+
 REISSUED: List[Row] = [
     (FIVE_PLAN, "0.1", [FIVE_0, FIVE_2], DONE, [FIVE_1]),
     (FIVE_PLAN, "0.0+0.1", [FIVE_2, FIVE_3, FIVE_4], DONE, [FIVE_0, FIVE_1]),
@@ -661,6 +687,8 @@ def examples() -> Iterator[Example]:
         yield example("reissue", [plan, names, lines], answer, output)
     for plan, lines, drawn, answer, output in SPLIT_ANEW:
         yield example("resplit", [plan, lines, drawn], answer, output)
+    for plan, kept, value, drawn, answer, output in FROM_ENCRYPTED:
+        yield example("create_from_encrypted", [plan, *kept, value, drawn], answer, output)
     for call, table in [("status", STATUSES), ("fingerprint", FINGERPRINTED), ("words", WORDS), ("repair", REPAIRED)]:
         yield from (example(call, [given], answer, output) for given, answer, output in table)
     yield example("version", [], DONE, version())

@@ -235,6 +235,30 @@ export class Engine {
      */
     resplitBytes(plan: Text, lines: Lines, options?: import("./types.js").ResplitOptions | undefined): Uint8Array[];
     /**
+     * Creates a backup of the encrypted secret of an extendable backup, by a plan, and returns its mnemonics.
+     *
+     *     const renewed = shamir.createFromEncrypted("3of5", shamir.encrypted(mnemonics.slice(1)));
+     *     const same = shamir.recover(renewed.slice(2), { passphrase: "TREZOR" }); // the bytes of the secret
+     *
+     * `encrypted` is as for `decrypt`. The call needs no passphrase, and decrypts nothing. With each passphrase, the new backup gives what
+     * `decrypt` gives. `encrypted` and this call after it give what `resplit` gives. Random bytes are as for `resplit`.
+     *
+     * Throws a `Refusal` with one of the codes 2 (a field is out of range), 31 to 34, 42, 43, 67 or 68.
+     * @param {Text} plan
+     * @param {EncryptedSecret} encrypted
+     * @param {ResplitOptions} [options]
+     * @returns {string[]}
+     */
+    createFromEncrypted(plan: Text, encrypted: EncryptedSecret, options?: import("./types.js").ResplitOptions | undefined): string[];
+    /**
+     * Creates a backup as `createFromEncrypted` does, and returns the bytes of each mnemonic. The caller can clear them.
+     * @param {Text} plan
+     * @param {EncryptedSecret} encrypted
+     * @param {ResplitOptions} [options]
+     * @returns {Uint8Array[]}
+     */
+    createFromEncryptedBytes(plan: Text, encrypted: EncryptedSecret, options?: import("./types.js").ResplitOptions | undefined): Uint8Array[];
+    /**
      * Returns the mnemonics that fit a line of which some words can't be read, in ascending order of their words' indices.
      *
      * The line is a list of marks, separated as words are. A word of the word list stands for itself. Letters followed by one `?`

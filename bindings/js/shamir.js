@@ -20,13 +20,13 @@
  * is encoded as UTF-8, or a Uint8Array. A secret and random bytes are a Uint8Array. Another type, an option that the call
  * doesn't know, options that are inherited, two options that can't stand together, and an array whose buffer was transferred throw a
  * TypeError. A number out of range, a string that UTF-8 can't encode, and a line feed inside a line of a list throw a RangeError. If
- * random bytes are left out and the host has no `crypto`, `create` and `resplit` throw an Error.
+ * random bytes are left out and the host has no `crypto`, `create`, `resplit` and `createFromEncrypted` throw an Error.
  *
  * Arguments are copied into the memory of the module. After each call, also after a refusal, everything that the call may have
  * written there is cleared, and so are the copies of the arguments. If a call traps, the whole memory is cleared. The next call
  * then uses a new instance of the module, as it does after one that needed more than 4 MiB. JavaScript can't clear strings. So if no
- * secret may stay in memory, pass texts as Uint8Array, use `createBytes`, `reissueBytes`, `resplitBytes` and `repairBytes`, and clear
- * these arrays after use.
+ * secret may stay in memory, pass texts as Uint8Array, use `createBytes`, `reissueBytes`, `resplitBytes`, `createFromEncryptedBytes`
+ * and `repairBytes`, and clear these arrays after use.
  */
 import { ANSWER_BYTES, Calls, Room, Struct } from "./calls.js";
 import { Copies, copied, flag, known, wholeNumber, withCopies } from "./copies.js";
@@ -452,8 +452,42 @@ export class Engine {
     const { random } = known(options, ["random"]);
     return withCopies((own) => {
       const given = [own.text(plan, "the plan"), own.lines(lines)];
-      if (random === undefined) return this.#drawnSplit(own, given);
-      return this.#lines("shamir_resplit", [...given, own.data(random, "random")], MNEMONICS_BYTES_MAX);
+      return this.#split(own, "shamir_resplit", given, random);
+    });
+  }
+
+  /**
+   * Creates a backup of the encrypted secret of an extendable backup, by a plan, and returns its mnemonics.
+   *
+   *     const renewed = shamir.createFromEncrypted("3of5", shamir.encrypted(mnemonics.slice(1)));
+   *     const same = shamir.recover(renewed.slice(2), { passphrase: "TREZOR" }); // the bytes of the secret
+   *
+   * `encrypted` is as for `decrypt`. The call needs no passphrase, and decrypts nothing. With each passphrase, the new backup gives what
+   * `decrypt` gives. `encrypted` and this call after it give what `resplit` gives. Random bytes are as for `resplit`.
+   *
+   * Throws a `Refusal` with one of the codes 2 (a field is out of range), 31 to 34, 42, 43, 67 or 68.
+   * @param {Text} plan
+   * @param {EncryptedSecret} encrypted
+   * @param {ResplitOptions} [options]
+   * @returns {string[]}
+   */
+  createFromEncrypted(plan, encrypted, options = {}) {
+    return this.createFromEncryptedBytes(plan, encrypted, options).map(taken);
+  }
+
+  /**
+   * Creates a backup as `createFromEncrypted` does, and returns the bytes of each mnemonic. The caller can clear them.
+   * @param {Text} plan
+   * @param {EncryptedSecret} encrypted
+   * @param {ResplitOptions} [options]
+   * @returns {Uint8Array[]}
+   */
+  createFromEncryptedBytes(plan, encrypted, options = {}) {
+    const { random } = known(options, ["random"]);
+    const parameters = parametersOf(encrypted);
+    return withCopies((own) => {
+      const given = [own.text(plan, "the plan"), parameters, own.data(encrypted.value, "the value")];
+      return this.#split(own, "shamir_create_from_encrypted", given, random);
     });
   }
 
@@ -544,17 +578,21 @@ export class Engine {
   }
 
   /**
-   * Splits a backup anew with drawn bytes. If it gets none, the engine says how many it takes, unless it refuses something else.
+   * Splits an encrypted secret with random bytes, or with drawn ones. The engine says how many it takes if it gets none, unless it
+   * refuses something else.
    * @param {Copies} own
-   * @param {Uint8Array[]} given
+   * @param {string} call
+   * @param {import("./calls.js").Part[]} given
+   * @param {Uint8Array | undefined} random
    * @returns {Uint8Array[]}
    */
-  #drawnSplit(own, given) {
-    const { code, first } = this.#calls.run("shamir_resplit", [...given, new Uint8Array(), new Room(0)]);
+  #split(own, call, given, random) {
+    if (random !== undefined) return this.#lines(call, [...given, own.data(random, "random")], MNEMONICS_BYTES_MAX);
+    const { code, first } = this.#calls.run(call, [...given, new Uint8Array(), new Room(0)]);
     for (let drawn = 1; ; drawn++) {
-      const random = this.#drawn(own, code === Code.RANDOM_LENGTH ? first : 0);
+      const bytes = this.#drawn(own, code === Code.RANDOM_LENGTH ? first : 0);
       try {
-        return this.#lines("shamir_resplit", [...given, random], MNEMONICS_BYTES_MAX);
+        return this.#lines(call, [...given, bytes], MNEMONICS_BYTES_MAX);
       } catch (error) {
         if (!(error instanceof Refusal) || error.code !== Code.SAME_IDENTIFIER || drawn === DRAWS) throw error;
       }

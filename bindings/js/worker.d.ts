@@ -76,6 +76,14 @@ export class InWorker {
      */
     resplit(plan: Text, lines: Lines, options?: import("./types.js").ResplitOptions | undefined, signal?: AbortSignal | undefined): Promise<string[]>;
     /**
+     * @param {Text} plan
+     * @param {EncryptedSecret} encrypted
+     * @param {ResplitOptions} [options]
+     * @param {AbortSignal} [signal]
+     * @returns {Promise<string[]>}
+     */
+    createFromEncrypted(plan: Text, encrypted: EncryptedSecret, options?: import("./types.js").ResplitOptions | undefined, signal?: AbortSignal | undefined): Promise<string[]>;
+    /**
      * @param {Text} line
      * @param {AbortSignal} [signal]
      * @returns {Promise<string[]>}

@@ -198,6 +198,17 @@ export class InWorker {
   }
 
   /**
+   * @param {Text} plan
+   * @param {EncryptedSecret} encrypted
+   * @param {ResplitOptions} [options]
+   * @param {AbortSignal} [signal]
+   * @returns {Promise<string[]>}
+   */
+  createFromEncrypted(plan, encrypted, options = {}, signal) {
+    return this.#call("createFromEncrypted", [plan, encrypted, options], signal);
+  }
+
+  /**
    * @param {Text} line
    * @param {AbortSignal} [signal]
    * @returns {Promise<string[]>}

@@ -266,6 +266,11 @@ shamir_answer shamir_encrypted(
     RETURN_ANSWER(&c, encrypted);
 }
 
+static void store_parameters(module *m, u32 fields, const shamir_parameters *parameters)
+{
+    i32_store(m, fields, parameters->id | (u32)parameters->extendable << 16 | (u32)parameters->exponent << 24);
+}
+
 shamir_answer shamir_decrypt(
     const shamir_parameters *parameters, const uint8_t *encrypted, size_t encrypted_bytes, const char *passphrase, size_t passphrase_bytes,
     const char *expected, size_t expected_bytes, uint8_t *secret, size_t secret_bytes)
@@ -278,7 +283,7 @@ shamir_answer shamir_decrypt(
     c.room = place(&c, room_bytes);
     if (!begin(&c))
         return no_memory();
-    i32_store(&c.m, fields, parameters->id | (u32)parameters->extendable << 16 | (u32)parameters->exponent << 24);
+    store_parameters(&c.m, fields, parameters);
     module_decrypt(
         &c.m, ANSWER, fields, from, encrypted_bytes, words, passphrase_bytes, print, expected_bytes, c.room, room_bytes);
     RETURN_ANSWER(&c, secret);
@@ -371,6 +376,24 @@ shamir_answer shamir_resplit(
     if (!begin(&c))
         return no_memory();
     module_resplit(&c.m, ANSWER, by, plan_bytes, from, lines_bytes, chance, random_bytes, c.room, room_bytes);
+    RETURN_ANSWER(&c, mnemonics);
+}
+
+shamir_answer shamir_create_from_encrypted(
+    const char *plan, size_t plan_bytes, const shamir_parameters *parameters, const uint8_t *encrypted, size_t encrypted_bytes,
+    const uint8_t *random, size_t random_bytes, char *mnemonics, size_t mnemonics_bytes)
+{
+    call c = new_call();
+    u32 by = given(&c, plan, plan_bytes), fields = place(&c, PARAMETERS_BYTES), from = given(&c, encrypted, encrypted_bytes),
+        chance = given(&c, random, random_bytes);
+    size_t room_bytes = at_most(mnemonics_bytes, SHAMIR_MNEMONICS_BYTES_MAX);
+
+    c.room = place(&c, room_bytes);
+    if (!begin(&c))
+        return no_memory();
+    store_parameters(&c.m, fields, parameters);
+    module_create_from_encrypted(
+        &c.m, ANSWER, by, plan_bytes, fields, from, encrypted_bytes, chance, random_bytes, c.room, room_bytes);
     RETURN_ANSWER(&c, mnemonics);
 }
 

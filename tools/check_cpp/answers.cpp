@@ -115,15 +115,18 @@ Output encrypted(const Values &given)
     });
 }
 
-Output decrypt(const Values &given)
+/* Returns the encrypted secret with the numbers from this place on. */
+shamir::EncryptedSecret encrypted_secret(const Values &given, std::size_t place, std::size_t value)
 {
     shamir::EncryptedSecret secret{};
-    secret.id = static_cast<std::uint16_t>(number(given[0]));
-    secret.extendable = !given[1]->empty();
-    secret.exponent = static_cast<std::uint8_t>(number(given[2]));
-    secret.value.assign(bytes(given[5]).data(), bytes(given[5]).data() + given[5]->size());
-    return digits(shamir::decrypt(secret, {*given[3], given[4]}));
+    secret.id = static_cast<std::uint16_t>(number(given[place]));
+    secret.extendable = !given[place + 1]->empty();
+    secret.exponent = static_cast<std::uint8_t>(number(given[place + 2]));
+    secret.value.assign(bytes(given[value]).data(), bytes(given[value]).data() + given[value]->size());
+    return secret;
 }
+
+Output decrypt(const Values &given) { return digits(shamir::decrypt(encrypted_secret(given, 0, 5), {*given[3], given[4]})); }
 
 std::string found(const shamir::Outcome &outcome)
 {
@@ -171,6 +174,11 @@ Output judge(const Values &given)
 
 Output reissue(const Values &given) { return lines(shamir::reissue(*given[0], shamir::detail::names(*given[1]), *given[2])); }
 
+Output create_from_encrypted(const Values &given)
+{
+    return lines(shamir::create_from_encrypted(*given[0], encrypted_secret(given, 1, 5), bytes(given[4])));
+}
+
 Output resplit(const Values &given) { return lines(shamir::resplit(*given[0], *given[2], bytes(given[1]))); }
 
 Output repair(const Values &given) { return lines(shamir::repair(*given[0])); }
@@ -189,6 +197,7 @@ Output words(const Values &given)
 const std::map<std::string, Output (*)(const Values &)> commands = {
     {"show", show}, {"create", create}, {"recover", recover}, {"encrypted", encrypted}, {"decrypt", decrypt}, {"drill", drill},
     {"status", status}, {"judge", judge}, {"reissue", reissue}, {"resplit", resplit}, {"repair", repair}, {"words", words},
+    {"create_from_encrypted", create_from_encrypted},
 };
 
 } // namespace

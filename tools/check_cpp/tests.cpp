@@ -117,14 +117,19 @@ void check_creation()
     const auto refused = shamir::create("no plan", secret, options, count_up);
     expect("create with a wrong exponent and a wrong plan", !refused && refused.error().code == SHAMIR_E_OUT_OF_RANGE);
     int draws = 0;
-    const auto split = shamir::resplit("1of1", extendable, [&](std::uint8_t *bytes, std::size_t count) {
+    const auto draw = [&](std::uint8_t *bytes, std::size_t count) {
         /* The first bytes give the identifier 9066 of the old backup, and the next are those of another program's example. */
         const std::uint8_t drawn[] = {0x23, 0x6a, 0x12, 0x34};
-        std::copy_n(draws++ ? drawn + 2 : drawn, count, bytes);
-    });
+        std::copy_n(draws++ % 2 ? drawn + 2 : drawn, count, bytes);
+    };
+    const auto split = shamir::resplit("1of1", extendable, draw);
     expect("resplit", split && shamir::Text(*split) == anew && draws == 2);
+    const auto kept = shamir::encrypted(extendable);
+    const auto renewed = shamir::create_from_encrypted("1of1", *kept, draw);
+    expect("create_from_encrypted", renewed && shamir::Text(*renewed) == anew && draws == 4);
     const auto nothing = [](std::uint8_t *, std::size_t) { throw std::logic_error("a refused plan takes no random bytes"); };
     expect("resplit with a wrong plan", shamir::resplit("no plan", extendable, nothing).error().code == SHAMIR_E_BAD_PLAN);
+    expect("an encrypted secret with a wrong plan", shamir::create_from_encrypted("no plan", *kept, nothing).error().code == SHAMIR_E_BAD_PLAN);
 }
 
 void check_recovery()

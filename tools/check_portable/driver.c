@@ -49,7 +49,7 @@ typedef struct {
 } argument;
 
 typedef struct {
-    char name[16];
+    char name[24];
     argument arguments[ARGUMENTS_MAX];
     int count;
     size_t room;
@@ -117,6 +117,13 @@ static void decrypt(const made_call *c, result *r)
     r->answer = shamir_decrypt(&given, BYTES(3), TEXT(4), TEXT(5), r->output, r->room);
 }
 
+static void create_from_encrypted(const made_call *c, result *r)
+{
+    shamir_parameters given = {(uint16_t)WIDE(1), (uint8_t)WIDE(2), (uint8_t)WIDE(3)};
+
+    r->answer = shamir_create_from_encrypted(TEXT(0), &given, BYTES(4), BYTES(5), CHARACTERS);
+}
+
 /* Clears the whole output, which it gets as an argument too. */
 static void wipe(const made_call *c, result *r)
 {
@@ -152,7 +159,7 @@ static const struct {
     {"drill", drill, 7},   {"status", status, 1},               {"reissue", reissue, 3}, {"repair", repair, 1},
     {"fingerprint", fingerprint, 1}, {"words", words, 1},       {"text", text, 6},       {"version", version, 0},
     {"wipe", wipe, 1},     {"quorums", quorums, 1},             {"resplit", resplit, 3}, {"encrypted", encrypted, 1},
-    {"decrypt", decrypt, 6}, {"judge", judge, 2},
+    {"decrypt", decrypt, 6}, {"judge", judge, 2},               {"create_from_encrypted", create_from_encrypted, 6},
 #ifdef MARKED
     {"control", control, 1},
 #endif

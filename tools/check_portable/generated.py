@@ -8,7 +8,7 @@ from tool import tool
 compare, module = tool("compare"), tool("module")
 
 ENOUGH = {"parse": 128, "create": 253440, "recover": 128, "drill": 65536, "status": 1638, "reissue": 253440, "repair": 1980, "resplit": 253440}
-ENOUGH |= {"encrypted": 128, "decrypt": 128, "judge": 1638}
+ENOUGH |= {"encrypted": 128, "decrypt": 128, "judge": 1638, "create_from_encrypted": 253440}
 ENOUGH |= {"fingerprint": 8, "words": 7231, "text": 64, "version": 64}
 CODES = [*range(0, 35), 41, 42, 43, 44, 51, 52, *range(61, 69), 71, 72, 99, 2**32 - 1]
 FORMS = [0, 0, 1, 2, 2, 3]
@@ -55,11 +55,21 @@ def encrypted_call(rng: random.Random) -> str:
     return call(rng, "encrypted", compare.made_backup(rng)[0])
 
 
+def parameters(rng: random.Random) -> List[int]:
+    return [rng.choice([rng.randrange(2**15)] * 9 + [2**15, 2**16 - 1]), rng.choice([0, 1] * 9 + [2, 255]), rng.choice([0] * 12 + [1, 16, 255])]
+
+
 def decrypt_call(rng: random.Random) -> str:
     value, passphrase = compare.made_secret(rng), compare.made_passphrase(rng)
-    numbers = [rng.choice([rng.randrange(2**15)] * 9 + [2**15, 2**16 - 1]), rng.choice([0, 1] * 9 + [2, 255]), rng.choice([0] * 12 + [1, 16, 255])]
     expected = rng.choice(["", "", "00000000", "x"])
-    return call(rng, "decrypt", *numbers, value, passphrase, expected)
+    return call(rng, "decrypt", *parameters(rng), value, passphrase, expected)
+
+
+def create_from_encrypted_call(rng: random.Random) -> str:
+    plan, value, (identifier, extendable, exponent) = compare.made_plan(rng), compare.made_secret(rng), parameters(rng)
+    count = max(0, compare.random_needed(plan, value) + rng.choice([0] * 12 + [-1, 1, 30]))
+    drawn = rng.choice([b"", b"", b"", identifier.to_bytes(2, "big")]) + rng.randbytes(count)
+    return call(rng, "create_from_encrypted", plan, identifier, extendable, exponent, value, drawn[:count])
 
 
 def status_call(rng: random.Random) -> str:
@@ -120,7 +130,7 @@ def wipe_call(rng: random.Random) -> str:
 KINDS: Dict[Callable[[random.Random], str], int] = {
     parse_call: 18, random_needed_call: 8, create_call: 5, recover_call: 6, drill_call: 5, status_call: 12, reissue_call: 12,
     repair_call: 14, fingerprint_call: 6, words_call: 6, text_call: 6, version_call: 1, wipe_call: 1,
-    judge_call: 10, quorums_call: 6, resplit_call: 8, encrypted_call: 8, decrypt_call: 4,
+    judge_call: 10, quorums_call: 6, resplit_call: 8, encrypted_call: 8, decrypt_call: 4, create_from_encrypted_call: 8,
 }  # fmt: skip
 
 

@@ -39,5 +39,6 @@ def calls() -> List[str]:
         driver.line("quorums", ["".join(of_two)], 0),
         driver.line("reissue", [TWO, NAMES, at_hand], MNEMONICS_BYTES),
         driver.line("resplit", [ALL, lines, drawn(ALL, 5)], MNEMONICS_BYTES),
+        driver.line("create_from_encrypted", [ALL, 0, 1, 0, SECRET, drawn(ALL, 5)], MNEMONICS_BYTES),
         driver.line("repair", [" ".join([*words, "?", "?", "?"])], REPAIRED_BYTES),
     ]

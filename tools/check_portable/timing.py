@@ -19,6 +19,7 @@ ALLOWED: Dict[Tuple[str, str], List[str]] = {
     ("create", "secret"): WRITTEN,
     ("create", "passphrase"): [*WRITTEN, PRINTABLE],
     ("resplit", "secret"): [*WRITTEN, SAME_IDENTIFIER],
+    ("create_from_encrypted", "secret"): [*WRITTEN, SAME_IDENTIFIER],
     ("recover", "passphrase"): [PRINTABLE],
     ("decrypt", "secret"): [],
     ("decrypt", "passphrase"): [PRINTABLE],

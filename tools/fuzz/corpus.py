@@ -10,14 +10,14 @@ from typing import Iterator
 
 ROOT = pathlib.Path(__file__).resolve().parents[2]
 # The numbers by which the targets know the calls, and that of the largest room.
-PARSE, RECOVER, ENCRYPTED, DECRYPT, DRILL, STATUS, REISSUE, RESPLIT, REPAIR, FINGERPRINT, CREATE, JUDGE, WORDS = range(13)
+PARSE, RECOVER, ENCRYPTED, DECRYPT, DRILL, STATUS, REISSUE, RESPLIT, REPAIR, FINGERPRINT, CREATE, JUDGE, FROM_ENCRYPTED, WORDS = range(14)
 LARGEST = 9
 ASKED = {"parse": PARSE, "recover": RECOVER, "quorums": DRILL, "encrypted": ENCRYPTED, "decrypt": DECRYPT, "create": CREATE, "resplit": RESPLIT}
 
 
 def inputs() -> Iterator[bytes]:
     """Yields two inputs for each case: what it asks, and another call of the same lines."""
-    others = itertools.cycle([PARSE, REPAIR, STATUS, JUDGE, ENCRYPTED, REISSUE, RESPLIT])
+    others = itertools.cycle([PARSE, REPAIR, STATUS, JUDGE, ENCRYPTED, REISSUE, RESPLIT, FROM_ENCRYPTED])
     for case in json.loads((ROOT / "vectors" / "vectors.json").read_text())["cases"]:
         given = case["given"]
         lines = "\n".join(given.get("mnemonics", [given.get("mnemonic", given.get("value", given.get("secret", "")))]))

@@ -44,7 +44,7 @@ static shamir_answer call(unsigned which, block text, block lines, block room)
     shamir_judgement judgement;
     shamir_share share;
 
-    switch (which % 13) {
+    switch (which % 14) {
     case 0:
         return shamir_parse(lines.data, lines.size, &share, (uint8_t *)room.data, room.size);
     case 1:
@@ -71,6 +71,11 @@ static shamir_answer call(unsigned which, block text, block lines, block room)
             room.size);
     case 11:
         return shamir_judge(lines.data, lines.size, text.data, text.size, &judgement, room.data, room.size);
+    case 12:
+        parameters.extendable = 1;
+        return shamir_create_from_encrypted(
+            text.data, text.size, &parameters, bytes, lines.size < 16 ? lines.size : 16, bytes, lines.size < 14 ? lines.size : 14, room.data,
+            room.size);
     default:
         return shamir_words(text.data, text.size, room.data, room.size);
     }

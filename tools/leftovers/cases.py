@@ -11,7 +11,7 @@ MANY = ",".join(["16of16"] * 16)
 ROOM = 253440
 # These calls get something secret.
 CALLS = ["parse", "create", "recover", "encrypted", "decrypt", "drill", "status", "judge", "quorums", "reissue", "resplit", "repair"]
-CALLS += ["fingerprint", "words"]
+CALLS += ["fingerprint", "words", "create_from_encrypted"]
 
 Argument = Union[bytes, str, int]
 
@@ -198,6 +198,25 @@ def resplits(backup: Backup) -> Iterator[Case]:
         yield Case("resplit", code, [plan, given, drawn, room])
 
 
+def from_encrypted(backup: Backup) -> Iterator[Case]:
+    """Yields what create_from_encrypted does with the encrypted secret of an extendable backup."""
+    assert backup.anew
+    new, first = backup.anew, backup.shares[0]
+    value = plain.encrypt(backup.secret, PASSPHRASE, first)
+    same = backup.random[:2] + new.random[2:]
+    for code, plan, extendable, given, drawn, room in [
+        (0, new.plan, 1, value, new.random, ROOM),
+        (1, new.plan, 1, value, new.random, 100),
+        (2, new.plan, 2, value, new.random, ROOM),
+        (31, "2of", 1, value, new.random, ROOM),
+        (42, new.plan, 1, value + b"\1", new.random, ROOM),
+        (43, new.plan, 1, value, new.random[1:], ROOM),
+        (67, new.plan, 0, value, new.random, ROOM),
+        (68, new.plan, 1, value, same, ROOM),
+    ]:
+        yield Case("create_from_encrypted", code, [plan, first["id"], extendable, first["exponent"], given, drawn, room])
+
+
 def lines_alone(backup: Backup) -> Iterator[Case]:
     """Yields the calls of one line, and those of one secret."""
     line = backup.mnemonics[0]
@@ -241,9 +260,14 @@ def all_cases() -> Iterator[tuple[Backup, List[Case]]]:
         backup = created(PLAN, length)
         yield backup, [case for cases in (creations, readings, encryptions, reissues, lines_alone) for case in cases(backup)]
         backup = split_anew(PLAN, NEW_PLAN, length)
-        yield backup, list(resplits(backup))
+        yield backup, [*resplits(backup), *from_encrypted(backup)]
     backup = created(f"15/{MANY}", 128)
     yield backup, list(greatest(backup))
     backup = split_anew(f"15/{MANY}", f"16/{MANY}", 128)
     assert backup.anew
-    yield backup, [Case("resplit", 0, [backup.anew.plan, backup.lines(), backup.anew.random, ROOM])]
+    new, first = backup.anew, backup.shares[0]
+    value = plain.encrypt(backup.secret, PASSPHRASE, first)
+    yield backup, [
+        Case("resplit", 0, [new.plan, backup.lines(), new.random, ROOM]),
+        Case("create_from_encrypted", 0, [new.plan, first["id"], 1, first["exponent"], value, new.random, ROOM]),
+    ]

@@ -187,9 +187,21 @@ test("resplit", () => {
   }
 });
 
-test("resplit draws random bytes anew, and others for those that give the old identifier", () => {
-  const made = [1, 2, 3].map(() => shamir.resplit("2of3", EXTENDABLE).join("\n"));
-  assert.equal(new Set(made).size, 3);
+test("createFromEncrypted", () => {
+  const random = counting(26);
+  const kept = ENCRYPTED[3];
+  assert.deepEqual(shamir.encrypted(EXTENDABLE), kept);
+  assert.deepEqual(shamir.createFromEncrypted(PLAN, kept, { random }), SPLIT_ANEW);
+  assert.deepEqual(shamir.createFromEncryptedBytes(bytesOf(PLAN), kept, { random }), SPLIT_ANEW.map(bytesOf));
+  for (const passphrase of ["TREZOR", "", "other"]) {
+    const renewed = shamir.createFromEncrypted("2of3", kept);
+    assert.deepEqual(shamir.recover(renewed.slice(1), { passphrase }), shamir.decrypt(kept, { passphrase }));
+  }
+});
+
+test("resplit and createFromEncrypted draw random bytes anew, and others for those that give the old identifier", () => {
+  const calls = [(plan) => shamir.resplit(plan, EXTENDABLE), (plan) => shamir.createFromEncrypted(plan, ENCRYPTED[3])];
+  for (const call of calls) assert.equal(new Set([1, 2, 3].map(() => call("2of3").join("\n"))).size, 3);
   const { getRandomValues } = crypto;
   const same = Uint8Array.of(0x23, 0x6a, ...new Uint8Array(24));
   let draws = [];
@@ -199,14 +211,16 @@ test("resplit draws random bytes anew, and others for those that give the old id
     return bytes;
   };
   try {
-    for (const times of [0, 1, 9]) {
-      draws = [...Array(times).fill(same), counting(26)];
-      assert.deepEqual(shamir.resplit(PLAN, EXTENDABLE), SPLIT_ANEW);
-      assert.equal(draws.length, 0);
+    for (const call of calls) {
+      for (const times of [0, 1, 9]) {
+        draws = [...Array(times).fill(same), counting(26)];
+        assert.deepEqual(call(PLAN), SPLIT_ANEW);
+        assert.equal(draws.length, 0);
+      }
+      draws = Array(11).fill(same);
+      assert.throws(() => call(PLAN), { code: 68, line: null, details: [0, 0], text: "same identifier" });
+      assert.equal(draws.length, 1);
     }
-    draws = Array(11).fill(same);
-    assert.throws(() => shamir.resplit(PLAN, EXTENDABLE), { code: 68, line: null, details: [0, 0], text: "same identifier" });
-    assert.equal(draws.length, 1);
   } finally {
     crypto.getRandomValues = getRandomValues;
   }

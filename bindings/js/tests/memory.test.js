@@ -55,6 +55,9 @@ const CALLS = {
   resplit: () => shamir.resplit(PLAN, EXTENDABLE),
   "resplit, bytes": () => shamir.resplitBytes("16of16", EXTENDABLE),
   "resplit, refused": () => shamir.resplit(PLAN, EXTENDABLE, { random: counting(25) }),
+  createFromEncrypted: () => shamir.createFromEncrypted(PLAN, ENCRYPTED[3]),
+  "createFromEncrypted, bytes": () => shamir.createFromEncryptedBytes("16of16", ENCRYPTED[3]),
+  "createFromEncrypted, refused": () => shamir.createFromEncrypted(PLAN, ENCRYPTED[3], { random: counting(25) }),
   fingerprint: () => shamir.fingerprint(SECRET),
   "fingerprint, refused": () => shamir.fingerprint(counting(17)),
   repair: () => shamir.repair(ONE.replace("agency", "?")),
@@ -171,6 +174,8 @@ test("copies of arguments and of the output are cleared", () => {
   assert.ok(judged.some((text) => text.includes("group 0 members 3 of 2 0.0+0.1+0.2\n")));
   const split = cleared(() => shamir.resplit("1of1", EXTENDABLE, { random: Uint8Array.of(0x12, 0x34) }));
   for (const text of ["\x12\x34", EXTENDABLE[0]]) assert.ok(split.includes(text));
+  const renewed = cleared(() => shamir.createFromEncrypted("1of1", ENCRYPTED[3], { random: Uint8Array.of(0x12, 0x34) }));
+  for (const text of ["\x12\x34", Buffer.from(ENCRYPTED[3].value).toString("latin1")]) assert.ok(renewed.includes(text));
   const refusals = cleared(() => assert.throws(() => shamir.recover(FIVE, { passphrase: "TREZOR\x07" }), Refusal));
   for (const text of ["TREZOR\x07", FIVE[0]]) assert.ok(refusals.includes(text));
   const wrong = cleared(() => assert.throws(() => shamir.create(PLAN, SECRET, { passphrase, random: 7 }), TypeError));

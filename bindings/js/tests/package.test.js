@@ -137,6 +137,7 @@ test("each call in a worker", async () => {
   assert.equal((await shamir.judge(new Set(FIVE), FIVE[0])).again, true);
   assert.deepEqual(await shamir.reissue(PLAN, "0.1", [FIVE[0], ...FIVE.slice(2)]), [FIVE[1]]);
   assert.deepEqual(await shamir.resplit(PLAN, new Set(EXTENDABLE), { random: counting(26) }), SPLIT_ANEW);
+  assert.deepEqual(await shamir.createFromEncrypted(PLAN, ENCRYPTED[3], { random: counting(26) }), SPLIT_ANEW);
   assert.deepEqual(await shamir.repair(FIVE[0].replace("leaf", "?")), [FIVE[0]]);
   assert.equal((await shamir.parse(TWO[0])).memberIndex, 2);
   assert.equal(await shamir.fingerprint(SECRET), "df41d8fe");

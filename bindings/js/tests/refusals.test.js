@@ -23,6 +23,7 @@ const BAD_GROUP_THRESHOLD = "duckling enlarge acrobat academic agency result len
 const none = { random: new Uint8Array() };
 const drill = (...given) => [...shamir.drill(...given)];
 const decrypt = (fields, options) => shamir.decrypt({ ...ENCRYPTED[0], ...fields }, options);
+const renew = (plan, fields, options) => shamir.createFromEncrypted(plan, { ...ENCRYPTED[3], ...fields }, options);
 
 // A code, the line, the details, the text, and a call.
 const REFUSALS = [
@@ -114,6 +115,13 @@ const REFUSALS = [
   [43, null, [2, 0], "random bytes: 2 needed", () => shamir.resplit("1of1", EXTENDABLE, { random: Uint8Array.of(0x23, 0x6a, 0) })],
   [68, null, [0, 0], "same identifier", () => shamir.resplit("1of1", EXTENDABLE, { random: Uint8Array.of(0x23, 0x6a) })],
   [68, null, [0, 0], "same identifier", () => shamir.resplit("1of1", EXTENDABLE, { random: Uint8Array.of(0xa3, 0x6a) })],
+  [2, null, [0, 0], "number out of range", () => renew("1", { id: 32768, value: counting(0) }, none)],
+  [31, null, [0, 0], "bad plan", () => renew("1", { value: counting(0) }, none)],
+  [42, null, [15, 0], "secret of 15 bytes", () => renew(PLAN, { value: counting(15), extendable: false })],
+  [67, null, [0, 0], "backup isn't extendable", () => renew(PLAN, { extendable: false })],
+  [67, null, [0, 0], "backup isn't extendable", () => renew(PLAN, { extendable: false }, none)],
+  [43, null, [26, 0], "random bytes: 26 needed", () => renew(PLAN, {}, none)],
+  [68, null, [0, 0], "same identifier", () => renew("1of1", {}, { random: Uint8Array.of(0xa3, 0x6a) })],
   [71, 1, [0, 0], "line too long", () => shamir.recover("#".repeat(1025))],
 ];
 

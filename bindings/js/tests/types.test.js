@@ -67,6 +67,9 @@ test("wrong types are TypeErrors", () => {
     () => shamir.resplit(PLAN, FIVE, { random: null }),
     () => shamir.resplit(PLAN, 6),
     () => shamir.resplit(undefined, FIVE),
+    () => shamir.createFromEncrypted(PLAN, ENCRYPTED[3], { random: 26 }),
+    () => shamir.createFromEncrypted(PLAN, shamir.parse(ONE)),
+    () => shamir.createFromEncrypted(undefined, ENCRYPTED[3]),
     () => shamir.create(undefined, SECRET),
     () => shamir.randomNeeded(PLAN, "16"),
     () => shamir.randomNeeded(PLAN),
@@ -112,6 +115,7 @@ test("options are named, and each name is known", () => {
     () => shamir.create(PLAN, SECRET, { max_exponent: 1 }),
     () => shamir.drill(FIVE, { limit: 1 }),
     () => shamir.resplit(PLAN, FIVE, { passphrase: "TREZOR" }),
+    () => shamir.createFromEncrypted(PLAN, ENCRYPTED[3], { passphrase: "TREZOR" }),
     () => shamir.decrypt(ENCRYPTED[0], { passphrase: "TREZOR", maxExponent: 1 }),
   ]) {
     assert.throws(call, (error) => error instanceof TypeError && !/TREZOR|passphase/.test(error.message), call.toString());
@@ -132,6 +136,7 @@ test("options that are inherited are noticed", () => {
       () => shamir.recover(FIVE, options),
       () => shamir.drill(FIVE, options),
       () => shamir.resplit(PLAN, FIVE, options),
+      () => shamir.createFromEncrypted(PLAN, ENCRYPTED[3], options),
       () => shamir.decrypt(ENCRYPTED[0], options),
     ]) {
       assert.throws(call, (error) => error instanceof TypeError && !/TREZOR/.test(error.message), call.toString());

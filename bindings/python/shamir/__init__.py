@@ -48,8 +48,8 @@ from typing import Any, Callable, Dict, Generator, Iterable, List, Optional, Tup
 
 __all__ = ["Code", "Data", "EXPONENT_MAX", "EncryptedSecret", "GroupStatus", "Judgement", "Lines", "OF_GROUPS", "Outcome", "Papers", "Refusal"]
 __all__ += ["Share", "ShareFields", "Status", "Text"]
-__all__ += ["create", "decrypt", "decrypt_into", "drill", "encrypted", "encrypted_into", "fingerprint", "judge", "library_version", "parse"]
-__all__ += ["quorums", "random_needed", "recover", "recover_into", "reissue", "repair", "resplit", "status", "words"]
+__all__ += ["create", "create_from_encrypted", "decrypt", "decrypt_into", "drill", "encrypted", "encrypted_into", "fingerprint", "judge"]
+__all__ += ["library_version", "parse", "quorums", "random_needed", "recover", "recover_into", "reissue", "repair", "resplit", "status", "words"]
 
 __version__ = "1.0.0"
 
@@ -83,7 +83,7 @@ FORM_DIGITS = 0
 FORM_FINGERPRINTS = 1
 FORM_EXPECTED = 2
 
-# `resplit` draws random bytes so often at most. One draw in 32,768 gives the identifier of the old backup.
+# `resplit` and `create_from_encrypted` draw random bytes so often at most. One draw in 32,768 gives the identifier of the old backup.
 DRAWS = 10
 DRILL_ROOM = 1 << 16
 LIMIT_MAX = (1 << 32) - 1
@@ -267,6 +267,7 @@ def _declared(library: ctypes.CDLL) -> ctypes.CDLL:
         ("shamir_quorums", _SLICE),
         ("shamir_reissue", _SLICE * 3 + _ROOM),
         ("shamir_resplit", _SLICE * 3 + _ROOM),
+        ("shamir_create_from_encrypted", _SLICE + [ctypes.POINTER(_Parameters)] + _SLICE * 2 + _ROOM),
         ("shamir_repair", _SLICE + _ROOM),
         ("shamir_fingerprint", _SLICE + _ROOM),
         ("shamir_words", _SLICE + _ROOM),
@@ -1086,26 +1087,45 @@ def resplit(plan: Text, lines: Lines, *, random: Optional[Data] = None) -> List[
 
     Raises `Refusal` with one of the codes 11 to 34, 43, 51, 67, 68 or 71.
     """
-    given = _slice(_bytes(plan)) + _slice(_joined(lines))
-    return _split_anew(given, _data(random)) if random is not None else _drawn_split(given)
+    return _split(_library.shamir_resplit, _slice(_bytes(plan)) + _slice(_joined(lines)), random)
 
 
-def _split_anew(given: Tuple[Any, ...], random: bytes) -> List[str]:
+def create_from_encrypted(plan: Text, secret: EncryptedSecret, *, random: Optional[Data] = None) -> List[str]:
+    """Create a backup of the encrypted secret of an extendable backup, by a plan, and return its mnemonics.
+
+    >>> new = shamir.create_from_encrypted("3of5", shamir.encrypted(mnemonics[1:]))
+    >>> shamir.recover(new[2:], passphrase="TREZOR") == secret
+    True
+
+    `secret` is what `encrypted` gave. The call needs no passphrase, and decrypts nothing. With each passphrase, the new backup gives
+    what `decrypt` gives. `encrypted` and this call after it give what `resplit` gives. `random` is as for `resplit`.
+
+    Raises `Refusal` with one of the codes 2 (a field is out of range), 31 to 34, 42, 43, 67 or 68.
+    """
+    given = _slice(_bytes(plan)) + (ctypes.byref(_parameters(secret)),) + _slice(_data(secret.value))
+    return _split(_library.shamir_create_from_encrypted, given, random)
+
+
+def _split(call: Callable[..., _Answer], given: Tuple[Any, ...], random: Optional[Data]) -> List[str]:
+    return _split_anew(call, given, _data(random)) if random is not None else _drawn_split(call, given)
+
+
+def _split_anew(call: Callable[..., _Answer], given: Tuple[Any, ...], random: bytes) -> List[str]:
     arguments = given + _slice(random)
-    return _filled(lambda out, room: _library.shamir_resplit(*arguments, out, room), MNEMONICS_BYTES_MAX).decode().splitlines()
+    return _filled(lambda out, room: call(*arguments, out, room), MNEMONICS_BYTES_MAX).decode().splitlines()
 
 
-def _drawn_split(given: Tuple[Any, ...]) -> List[str]:
-    """Split a backup anew with drawn bytes. The library says how many it takes if it gets none, unless it refuses something else."""
-    needed = _library.shamir_resplit(*given, None, 0, None, 0)
+def _drawn_split(call: Callable[..., _Answer], given: Tuple[Any, ...]) -> List[str]:
+    """Split an encrypted secret with drawn bytes. The library says how many it takes if it gets none, unless it refuses something else."""
+    needed = call(*given, None, 0, None, 0)
     count = needed.first if needed.code == Code.RANDOM_LENGTH else 0
     for _ in range(DRAWS - 1):
         try:
-            return _split_anew(given, os.urandom(count))
+            return _split_anew(call, given, os.urandom(count))
         except Refusal as refusal:
             if refusal.code != Code.SAME_IDENTIFIER:
                 raise
-    return _split_anew(given, os.urandom(count))
+    return _split_anew(call, given, os.urandom(count))
 
 
 def repair(line: Text) -> List[str]:

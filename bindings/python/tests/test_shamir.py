@@ -529,6 +529,41 @@ class WorkedExamples(unittest.TestCase):
             self.refused(68, None, (0, 0), shamir.resplit, PLAN, EXTENDABLE)
         self.assertEqual(drawn.call_count, 10)
 
+    def test_create_from_encrypted(self):
+        kept = ENCRYPTED[3][1]
+        counting = bytes(range(26))
+        self.assertEqual(shamir.create_from_encrypted(PLAN, kept, random=counting), SPLIT_ANEW)
+        room = bytearray(16)
+        viewed = shamir.encrypted_into(room, "\n".join(EXTENDABLE).encode())
+        self.assertEqual(shamir.create_from_encrypted(PLAN.encode(), viewed, random=bytearray(counting)), SPLIT_ANEW)
+        for passphrase in ("TREZOR", "", "other"):
+            opened = shamir.decrypt(kept, passphrase=passphrase)
+            self.assertEqual(shamir.recover(shamir.create_from_encrypted("2of3", kept)[1:], passphrase=passphrase), opened)
+        create, other = shamir.create_from_encrypted, dataclasses.replace
+        self.refused(2, None, (0, 0), create, "", other(kept, id=32768))
+        self.refused(2, None, (0, 0), create, "", other(kept, exponent=16))
+        self.refused(31, None, (0, 0), create, "", other(kept, value=b""))
+        self.refused(42, None, (15, 0), create, PLAN, other(kept, value=bytes(15), extendable=False))
+        self.refused(67, None, (0, 0), create, PLAN, other(kept, extendable=False))
+        self.refused(67, None, (0, 0), create, PLAN, other(kept, extendable=False), random=b"")
+        for count in (0, 25, 27):
+            self.refused(43, None, (26, 0), create, PLAN, kept, random=bytes(count))
+        for first in (b"\x23\x6a", b"\xa3\x6a"):
+            self.refused(68, None, (0, 0), create, PLAN, kept, random=first + bytes(24))
+        self.assertRaises(TypeError, create, PLAN, shamir.parse(ONE))
+        self.assertRaises(OverflowError, create, PLAN, other(kept, id=65536))
+
+    def test_create_from_encrypted_draws(self):
+        kept = ENCRYPTED[3][1]
+        same, counting = b"\x23\x6a" + bytes(24), bytes(range(26))
+        for draws in ([counting], [same, counting], [same] * 9 + [counting]):
+            with mock.patch.object(os, "urandom", side_effect=draws) as drawn:
+                self.assertEqual(shamir.create_from_encrypted(PLAN, kept), SPLIT_ANEW)
+            self.assertEqual(drawn.mock_calls, [mock.call(26)] * len(draws))
+        with mock.patch.object(os, "urandom", return_value=same) as drawn:
+            self.refused(68, None, (0, 0), shamir.create_from_encrypted, PLAN, kept)
+        self.assertEqual(drawn.call_count, 10)
+
     def test_status(self):
         found = shamir.status([FIVE[4], FIVE[2], FIVE[0], FIVE[2]])
         group = shamir.GroupStatus(0, 2, ("0.0", "0.2"))
@@ -600,6 +635,7 @@ class WorkedExamples(unittest.TestCase):
             (41, lambda *room: library.shamir_status(one, len(one), *room)),
             (144, lambda *room: library.shamir_reissue(PLAN.encode(), 16, b"0.1", 3, text, len(text), *room)),
             (144, lambda *room: library.shamir_resplit(b"1of1", 4, extendable, len(extendable), b"\x12\x34", 2, *room)),
+            (170, lambda *room: library.shamir_create_from_encrypted(b"1of1", 4, shamir._Parameters(1, 1, 0), bytes(16), 16, b"\x12\x34", 2, *room)),
             (len(one) + 1, lambda *room: library.shamir_repair(one, len(one), *room)),
             (8, lambda *room: library.shamir_fingerprint(SECRET, 16, *room)),
             (68, lambda *room: library.shamir_drill(text, len(text), *key, 0, None, 0, 1, 0, None, 0, *room)),
@@ -717,6 +753,7 @@ class WorkedExamples(unittest.TestCase):
                 lambda: shamir.reissue(PLAN, "0.0", [bad]),
                 lambda: shamir.resplit(bad, FIVE),
                 lambda: shamir.resplit(PLAN, [bad]),
+                lambda: shamir.create_from_encrypted(bad, ENCRYPTED[0][1]),
                 lambda: shamir.encrypted(bad),
                 lambda: shamir.decrypt(ENCRYPTED[0][1], passphrase=bad),
             ]:
@@ -908,6 +945,8 @@ class WorkedExamples(unittest.TestCase):
         self.assertEqual(library.shamir_reissue(b"2of2", 4, None, 0, None, 0, None, 0).code, 63)
         self.assertEqual(library.shamir_resplit(None, 0, None, 0, None, 0, None, 0).code, 31)
         self.assertEqual(library.shamir_resplit(b"2of2", 4, None, 0, None, 0, None, 0).code, 29)
+        self.assertEqual(library.shamir_create_from_encrypted(None, 0, shamir._Parameters(), None, 0, None, 0, None, 0).code, 31)
+        self.assertEqual(library.shamir_create_from_encrypted(b"2of2", 4, shamir._Parameters(), None, 0, None, 0, None, 0).code, 42)
         self.assertEqual(library.shamir_fingerprint(None, 0, None, 0).code, 42)
         self.assertEqual(library.shamir_text(shamir._Answer(), None, 0).first, 4)
         answer = library.shamir_create(b"1of1", 4, SECRET, 16, None, 0, 0, 0, b"\x1f\x09", 2, None, 0)

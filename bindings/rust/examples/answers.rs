@@ -6,7 +6,8 @@ use shamir::{
     CreateOptions, DecryptOptions, Drill, EncryptedSecret, Error, Found, Plan, RecoverOptions, Secret, ShareFields, Status,
 };
 use shamir::{
-    create, create_with, decrypt, encrypted, fingerprint, judge, parse, recover, reissue, repair, resplit, status, words,
+    create, create_from_encrypted, create_with, decrypt, encrypted, fingerprint, judge, parse, recover, reissue, repair, resplit,
+    status, words,
 };
 use std::fmt::Write;
 use std::io::{self, BufRead};
@@ -74,6 +75,12 @@ fn kept(secret: &EncryptedSecret) -> String {
     format!("identifier {id} extendable {} exponent {exponent} value {digits}\n", u8::from(*extendable))
 }
 
+fn encrypted_secret(id: &[u8], extendable: &[u8], exponent: &[u8], value: &[u8]) -> Result<EncryptedSecret, Error> {
+    let id = u16::try_from(number(id)).expect("two bytes");
+    let exponent = u8::try_from(number(exponent)).expect("a byte");
+    Ok(EncryptedSecret { id, extendable: !extendable.is_empty(), exponent, value: Secret::new(value)? })
+}
+
 fn decrypted(secret: &EncryptedSecret, passphrase: &[u8], expected: &Value) -> Result<String, Error> {
     let options = DecryptOptions::new().passphrase(passphrase);
     let options = expected.as_ref().map_or(options, |expected| options.expected(expected));
@@ -132,10 +139,11 @@ fn answer(command: &str, values: &[Value]) -> Result<String, Error> {
         }
         ("encrypted", [lines]) => Ok(kept(&encrypted(lines)?)),
         ("decrypt", [id, extendable, exponent, passphrase, _, value]) => {
-            let small = |digits| u8::try_from(number(digits)).expect("a byte");
-            let id = u16::try_from(number(id)).expect("two bytes");
-            let (extendable, exponent, value) = (!extendable.is_empty(), small(exponent), Secret::new(value)?);
-            decrypted(&EncryptedSecret { id, extendable, exponent, value }, passphrase, &values[4])
+            decrypted(&encrypted_secret(id, extendable, exponent, value)?, passphrase, &values[4])
+        }
+        ("create_from_encrypted", [plan, id, extendable, exponent, random, value]) => {
+            let secret = encrypted_secret(id, extendable, exponent, value)?;
+            Ok(create_from_encrypted(&text(plan).parse()?, &secret, random)?.as_str().into())
         }
         ("drill", [passphrase, after, _, limit, as_fingerprints, lines]) => {
             let mut drill = Drill::new(lines, &options(passphrase, &values[2]));

@@ -34,6 +34,12 @@ pub struct EncryptedSecret {
     pub value: Secret,
 }
 
+impl EncryptedSecret {
+    pub(crate) fn parameters(&self) -> Parameters {
+        Parameters { id: self.id, extendable: u8::from(self.extendable), exponent: self.exponent }
+    }
+}
+
 /// Combines the first quorum of mnemonics, in the order of a drill, to the encrypted secret, and gives it with its parameters.
 ///
 /// `lines` is as for [`recover`](crate::recover()), which gives what [`decrypt`] gives of the result. The call needs no passphrase, and
@@ -147,7 +153,6 @@ impl fmt::Debug for DecryptOptions<'_> {
 /// # }
 /// ```
 pub fn decrypt(encrypted: &EncryptedSecret, options: &DecryptOptions<'_>) -> Result<Secret, Error> {
-    let EncryptedSecret { id, extendable, exponent, ref value } = *encrypted;
-    let parameters = Parameters { id, extendable: u8::from(extendable), exponent };
-    Secret::written_by(|room| ffi::decrypt(&parameters, value.as_bytes(), options.passphrase, options.expected, room))
+    let parameters = encrypted.parameters();
+    Secret::written_by(|room| ffi::decrypt(&parameters, encrypted.value.as_bytes(), options.passphrase, options.expected, room))
 }

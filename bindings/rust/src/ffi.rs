@@ -126,6 +126,17 @@ unsafe extern "C" {
         mnemonics: *mut c_char,
         mnemonics_bytes: usize,
     ) -> Answer;
+    fn shamir_create_from_encrypted(
+        plan: *const c_char,
+        plan_bytes: usize,
+        parameters: *const Parameters,
+        encrypted: *const u8,
+        encrypted_bytes: usize,
+        random: *const u8,
+        random_bytes: usize,
+        mnemonics: *mut c_char,
+        mnemonics_bytes: usize,
+    ) -> Answer;
     fn shamir_repair(line: *const c_char, line_bytes: usize, mnemonics: *mut c_char, mnemonics_bytes: usize) -> Answer;
     fn shamir_fingerprint(secret: *const u8, secret_bytes: usize, text: *mut c_char, text_bytes: usize) -> Answer;
     fn shamir_words(letters: *const c_char, letters_bytes: usize, text: *mut c_char, text_bytes: usize) -> Answer;
@@ -311,6 +322,30 @@ pub(crate) fn resplit(plan: &[u8], lines: &[u8], random: &[u8], room: &mut [u8])
     let ((plan, plan_bytes), (lines, lines_bytes), (room, room_bytes)) = (of(plan), of(lines), room_of(room));
     // SAFETY: "An output buffer or an output struct must not overlap any other argument."
     unsafe { shamir_resplit(plan, plan_bytes, lines, lines_bytes, random.as_ptr(), random.len(), room, room_bytes) }
+}
+
+pub(crate) fn create_from_encrypted(
+    plan: &[u8],
+    parameters: &Parameters,
+    encrypted: &[u8],
+    random: &[u8],
+    room: &mut [u8],
+) -> Answer {
+    let ((plan, plan_bytes), (room, room_bytes)) = (of(plan), room_of(room));
+    // SAFETY: "An output buffer or an output struct must not overlap any other argument."
+    unsafe {
+        shamir_create_from_encrypted(
+            plan,
+            plan_bytes,
+            parameters,
+            encrypted.as_ptr(),
+            encrypted.len(),
+            random.as_ptr(),
+            random.len(),
+            room,
+            room_bytes,
+        )
+    }
 }
 
 pub(crate) fn repair(line: &[u8], room: &mut [u8]) -> Answer {

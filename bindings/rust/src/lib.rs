@@ -42,7 +42,7 @@
 //! The crate uses neither `std` nor another crate. Without the feature `alloc`, which is on by default, it uses no allocator
 //! of Rust either. Then there are [`parse`], [`judge()`], [`recover()`], [`encrypted()`], [`decrypt`], [`status()`], [`quorums()`],
 //! [`fingerprint`], [`version()`], and the calls that write into the caller's room: [`create_into`], [`reissue_into`],
-//! [`resplit_into`], [`repair_into`] and [`words_into`].
+//! [`resplit_into`], [`create_from_encrypted_into`], [`repair_into`] and [`words_into`].
 //!
 //! # The library
 //!
@@ -71,6 +71,7 @@ mod drill;
 mod encrypted;
 mod error;
 mod ffi;
+mod from_encrypted;
 mod judge;
 #[cfg(feature = "alloc")]
 mod mnemonics;
@@ -105,6 +106,9 @@ pub use details::{Counts, Mismatch};
 pub use drill::{Drill, Found, Names, Outcome};
 pub use encrypted::{DecryptOptions, EncryptedSecret, decrypt, encrypted};
 pub use error::Error;
+pub use from_encrypted::create_from_encrypted_into;
+#[cfg(feature = "alloc")]
+pub use from_encrypted::{create_from_encrypted, create_from_encrypted_with};
 pub use judge::{Judgement, judge};
 #[cfg(feature = "alloc")]
 pub use mnemonics::Mnemonics;

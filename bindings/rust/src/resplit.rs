@@ -46,7 +46,7 @@ mod in_heap {
     use crate::plan::Plan;
     use crate::room::Room;
 
-    /// [`resplit_with`] draws random bytes so often at most. One draw in 32,768 gives the identifier of the old backup.
+    /// Random bytes are drawn so often at most. One draw in 32,768 gives the identifier of the old backup.
     const DRAWS: usize = 10;
 
     /// Splits the encrypted secret of an extendable backup anew, by another plan, and gives the mnemonics of this new backup.
@@ -106,26 +106,36 @@ mod in_heap {
     pub fn resplit_with<E: From<Error>>(
         plan: &Plan,
         lines: impl AsRef<[u8]>,
-        mut draw: impl FnMut(&mut [u8]) -> Result<(), E>,
+        draw: impl FnMut(&mut [u8]) -> Result<(), E>,
     ) -> Result<Mnemonics, E> {
         let lines = lines.as_ref();
+        with_other_identifier(|random| resplit(plan, lines, random), draw)
+    }
+
+    /// Makes mnemonics of an encrypted secret with random bytes that a closure draws. If they give the old identifier, it draws others.
+    pub(crate) fn with_other_identifier<E: From<Error>>(
+        make: impl Fn(&[u8]) -> Result<Mnemonics, Error>,
+        mut draw: impl FnMut(&mut [u8]) -> Result<(), E>,
+    ) -> Result<Mnemonics, E> {
         // A backup takes at least two random bytes, so without any the library says how many, or refuses something else.
-        let needed = match resplit(plan, lines, &[]) {
+        let needed = match make(&[]) {
             Err(Error::RandomLength { needed }) => needed as usize,
             other => return Ok(other?),
         };
         let mut random = Room::new(needed);
         for _ in 1..DRAWS {
             draw(random.bytes_mut())?;
-            match resplit(plan, lines, random.bytes()) {
+            match make(random.bytes()) {
                 Err(Error::SameIdentifier) => {}
                 other => return Ok(other?),
             }
         }
         draw(random.bytes_mut())?;
-        Ok(resplit(plan, lines, random.bytes())?)
+        Ok(make(random.bytes())?)
     }
 }
 
+#[cfg(feature = "alloc")]
+pub(crate) use in_heap::with_other_identifier;
 #[cfg(feature = "alloc")]
 pub use in_heap::{resplit, resplit_with};

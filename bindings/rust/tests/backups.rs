@@ -9,8 +9,8 @@ use given::{
 use shamir::{CreateOptions, DecryptOptions, Drill, EncryptedSecret, Error, Found, Mismatch};
 use shamir::{Mnemonics, Name, Outcome, Plan, RecoverOptions, Secret};
 use shamir::{
-    create, create_into, create_with, decrypt, encrypted, fingerprint, parse, quorums, recover, reissue, reissue_into, repair,
-    repair_into, resplit, resplit_with, status, words,
+    create, create_from_encrypted, create_from_encrypted_with, create_into, create_with, decrypt, encrypted, fingerprint, parse,
+    quorums, recover, reissue, reissue_into, repair, repair_into, resplit, resplit_with, status, words,
 };
 
 /// The fingerprint of the secret of `ONE`. It is the HMAC-SHA256 by another program.
@@ -330,6 +330,42 @@ fn random_bytes_of_a_split_are_drawn_again() {
     let failed = resplit_with(&plan(PLAN), &lines, |_| Err(Error::NoMemory));
     assert_eq!(failed.unwrap_err(), Error::NoMemory);
     let refused = resplit_with::<Error>(&plan(PLAN), ONE, |_| panic!("nothing is drawn"));
+    assert_eq!(refused.unwrap_err(), Error::NotExtendable);
+}
+
+/// The encrypted secret of the two mnemonics of `EXTENDABLE`. Another program computed it.
+fn extendable_secret() -> EncryptedSecret {
+    EncryptedSecret { id: 0x236a, extendable: true, exponent: 0, value: secret("644c905b0c4da21692f06fff3ed8b3e1") }
+}
+
+#[test]
+fn an_encrypted_secret_is_split() {
+    let (kept, random) = (extendable_secret(), std::array::from_fn::<u8, 26, _>(|place| place as u8));
+    assert_eq!(encrypted(EXTENDABLE.join("\n")).unwrap(), kept);
+    let made = create_from_encrypted(&plan(PLAN), &kept, &random).unwrap();
+    assert!(made.iter().eq(SPLIT_ANEW));
+    for passphrase in ["TREZOR", "", "other"] {
+        let right = decrypt(&kept, &DecryptOptions::new().passphrase(passphrase)).unwrap();
+        assert_eq!(recover(&made, &RecoverOptions::new().passphrase(passphrase)).unwrap(), right);
+    }
+}
+
+#[test]
+fn random_bytes_for_an_encrypted_secret_are_drawn_again() {
+    let (kept, random) = (extendable_secret(), std::array::from_fn::<u8, 26, _>(|place| place as u8));
+    let mut drawn = 0;
+    let made = create_from_encrypted_with::<Error>(&plan(PLAN), &kept, |room| {
+        drawn += 1;
+        room.copy_from_slice(&random);
+        if drawn == 1 {
+            room[..2].copy_from_slice(&[0x23, 0x6a]);
+        }
+        Ok(())
+    });
+    assert!(made.unwrap().iter().eq(SPLIT_ANEW));
+    assert_eq!(drawn, 2);
+    let fixed = EncryptedSecret { extendable: false, ..extendable_secret() };
+    let refused = create_from_encrypted_with::<Error>(&plan(PLAN), &fixed, |_| panic!("nothing is drawn"));
     assert_eq!(refused.unwrap_err(), Error::NotExtendable);
 }
 

@@ -92,8 +92,8 @@ mod in_heap {
     use super::{LOOKED_FOR, RANDOM, given, left_by};
     use given::{FIVE, ONE, TWO_RANDOM, bytes};
     use shamir::{
-        CreateOptions, DecryptOptions, Drill, Error, Mnemonics, Papers, RecoverOptions, Secret, create, create_with, decrypt,
-        encrypted, judge, parse, recover, reissue, repair, resplit_with,
+        CreateOptions, DecryptOptions, Drill, Error, Mnemonics, Papers, RecoverOptions, Secret, create,
+        create_from_encrypted_with, create_with, decrypt, encrypted, judge, parse, recover, reissue, repair, resplit_with,
     };
 
     fn trezor() -> RecoverOptions<'static> {
@@ -151,6 +151,8 @@ mod in_heap {
         assert_eq!(left_by(|| create_with(&plan, &secret, &CreateOptions::new(), draw).unwrap()), 0);
         let lines = create(&plan, &secret, &CreateOptions::new().extendable(true), &bytes(TWO_RANDOM)).unwrap();
         assert_eq!(left_by(|| resplit_with(&plan, &lines, draw).unwrap()), 0);
+        let kept = encrypted(&lines).unwrap();
+        assert_eq!(left_by(|| create_from_encrypted_with(&plan, &kept, draw).unwrap()), 0);
         let failing = |room: &mut [u8]| draw(room).and(Err(Error::NoShares));
         assert_eq!(left_by(|| create_with(&plan, &secret, &CreateOptions::new(), failing).unwrap_err()), 0);
         let failing = |room: &mut [u8]| {

@@ -70,6 +70,12 @@ fn resplit(plan: &str, lines: &[&str], random: &[u8]) -> Error {
     shamir::resplit(&plan.parse().unwrap(), lines.join("\n"), random).unwrap_err()
 }
 
+fn create_from_encrypted(plan: &str, id: u16, extendable: bool, random: &[u8]) -> Error {
+    let value = Secret::new(&bytes("644c905b0c4da21692f06fff3ed8b3e1")).unwrap();
+    let secret = EncryptedSecret { id, extendable, exponent: 0, value };
+    shamir::create_from_encrypted(&plan.parse().unwrap(), &secret, random).unwrap_err()
+}
+
 fn encrypted(lines: &[&str]) -> Error {
     shamir::encrypted(lines.join("\n")).unwrap_err()
 }
@@ -221,6 +227,15 @@ fn refusals() -> Vec<(Error, Error, u32, &'static str)> {
         (resplit(PLAN, &EXTENDABLE_TWO, &[0x23, 0x6a]), Error::RandomLength { needed: 26 }, 43, "random bytes: 26 needed"),
         (resplit("1of1", &EXTENDABLE_TWO, &[0x23, 0x6a]), Error::SameIdentifier, 68, "same identifier"),
         (resplit("1of1", &EXTENDABLE_TWO, &[0xa3, 0x6a]), Error::SameIdentifier, 68, "same identifier"),
+        (create_from_encrypted(PLAN, 32768, false, &[]), Error::OutOfRange, 2, "number out of range"),
+        (create_from_encrypted(PLAN, 9066, false, &[]), Error::NotExtendable, 67, "backup isn't extendable"),
+        (
+            create_from_encrypted(PLAN, 9066, true, &[0x23, 0x6a]),
+            Error::RandomLength { needed: 26 },
+            43,
+            "random bytes: 26 needed",
+        ),
+        (create_from_encrypted("1of1", 9066, true, &[0xa3, 0x6a]), Error::SameIdentifier, 68, "same identifier"),
         (recover(&[&"#".repeat(1025)]), Error::LineTooLong { line: Some(1) }, 71, "line too long"),
     ]
 }

@@ -3,7 +3,7 @@ mod given;
 
 use given::{EXTENDABLE, FIVE, FOURTH, ONE, ONE_SECRET, SPLIT_ANEW, TWO, TWO_RANDOM, TWO_SECRET, bytes};
 use shamir::{CreateOptions, DecryptOptions, Error, Plan, RecoverOptions, Secret, Share, ShareFields};
-use shamir::{REPAIRED_BYTES_MAX, create_into, reissue_into, repair_into, resplit_into, words_into};
+use shamir::{REPAIRED_BYTES_MAX, create_from_encrypted_into, create_into, reissue_into, repair_into, resplit_into, words_into};
 use shamir::{decrypt, encrypted, fingerprint, judge, parse, recover, status};
 
 fn plan(text: &str) -> Plan {
@@ -63,6 +63,9 @@ fn an_extendable_backup_is_split_anew() {
     assert!(room[written..].iter().all(|&byte| byte == 7));
     let mut short = vec![7; written - 1];
     assert_eq!(resplit_into(&plan, &lines, &random, &mut short), Err(Error::TooShort { needed: written as u64 }));
+    let kept = encrypted(&lines).unwrap();
+    assert!(create_from_encrypted_into(&plan, &kept, &random, &mut room).unwrap().lines().eq(SPLIT_ANEW));
+    assert_eq!(create_from_encrypted_into(&plan, &kept, &random, &mut short), Err(Error::TooShort { needed: written as u64 }));
     assert!(short.iter().all(|&byte| byte == 7));
 }
 

@@ -1,14 +1,13 @@
--- A split anew is the creation of a backup, with whatever passphrase, and there is just one.
-use Rattle.std.proofs.Common.{◌≡◌, ℕ, ◌*◌, ◌<◌, ◌^◌, ◌==◌, not, Bool, true, false, if◌then◌else◌, List, [], ◌∷◌, ◌++◌, length, All, Contains}
+-- An encrypted secret that is split is the creation of a backup, with whatever passphrase, and there is just one.
+use Rattle.std.proofs.Common.{◌≡◌, ℕ, ◌*◌, ◌^◌, ◌==◌, not, Bool, true, false, if◌then◌else◌, List, [], ◌∷◌, ◌++◌, length, All, Contains}
 use Rattle.std.proofs.Common.{eqb-true, Result, Ok, Err, inl, inr, refl, sym, ap, ap₂, subst, ◌∙◌}
-use Rattle.std.proofs.Math.Bridge.{le_prop}
 use Rattle.std.specs.List.{concat}
 use Rattle.std.proofs.lemmas.Bool.{eqb-false}
 use Rattle.std.proofs.lemmas.List.Elements.{All-head, All-contains}
 use Rattle.s39_kdf.specs.declared.params.Params.{Params}
 use Rattle.s39_kdf.specs.Bytes.{AreBytes, xor_of}
 use Rattle.s39_kdf.specs.Pbkdf2.{pbkdf2}
-use Rattle.s39_kdf.specs.Limits.{exponent_bits, IsSecretLength}
+use Rattle.s39_kdf.specs.Limits.{IsSecretLength}
 use Rattle.s39_kdf.specs.Cipher.{salt_prefix, round_iterations, round_function, IsEncryption, SecretsHaveOneEncryption, EncryptionKeepsLengthAndBytes}
 use Rattle.s39_split.specs.Sharing.{IsSplit}
 use Rattle.s39_words.specs.declared.share.ShareFields.{ShareFields}
@@ -29,7 +28,7 @@ use Rattle.s39_backup.specs.Created.{Asked, asked_for, identifier_of, random_nee
 use Rattle.s39_backup.proofs.Levels.{some_share, group_threshold_is, encrypted_like}
 use Rattle.s39_backup.proofs.Promise.{in_created_groups}
 use Rattle.s39_backup.proofs.OneRecovery.{one_params, params_of_share}
-use Rattle.s39_backup.specs.Resplit.{gives_identifier, judged_split, AreSplitAnew, IsResplit}
+use Rattle.s39_backup.specs.Resplit.{options_of, gives_identifier, judged_split, IsCreatedFromEncrypted, IsCreationFromEncrypted, AreSplitAnew, IsResplit}
 
 -- ---- the cipher of an extendable backup
 
@@ -108,25 +107,6 @@ judged_ok old group_threshold groups random (Ok combined) encrypted is =
 
 -- ---- options
 
--- the options of parameters
-abbrev pub options_of : Params → Options
-options_of params = record { exponent = params.exponent; extendable = params.extendable; exponent_in_range = params.exponent_in_range }
-
--- options are known by their fields
-same_options : (p q : Options) → p.extendable ≡ q.extendable → p.exponent ≡ q.exponent → p ≡ q
-same_options p q extendable exponent =
-    subst
-    (λ (f : Bool). p ≡ of f q.exponent q.exponent_in_range)
-    extendable
-    (subst
-    (λ (e : ℕ). (k : e < 2 ^ exponent_bits) → p ≡ of p.extendable e k)
-    exponent
-    (λ k. ap (λ (t : p.exponent < 2 ^ exponent_bits). of p.extendable p.exponent t) (le_prop p.exponent_in_range k))
-    q.exponent_in_range)
-  where
-    of : (extendable : Bool) (exponent : ℕ) → exponent < 2 ^ exponent_bits → Options
-    of extendable exponent t = record { exponent = exponent; extendable = extendable; exponent_in_range = t }
-
 -- all shares of a set have the flag and the exponent of its parameters
 pub have_options : (set : List ShareFields) (params : Params) → IsShareSet set → AreParams set params
     → All (λ share. (share.extendable ≡ params.extendable) × (share.exponent ≡ params.exponent)) set
@@ -135,48 +115,60 @@ have_options (s ∷ ss) params is are = λ k d within.
     let agree = All-head (λ share. All (Agrees share) (s ∷ ss)) s ss is.agree k d within in
     (sym agree.extendable ∙ sym are.1, sym agree.exponent ∙ sym are.2)
 
--- a set has one list of them
-same_old : (set : List ShareFields) (p q : Params) → AreParams set p → AreParams set q → (p.extendable ≡ q.extendable) × (p.exponent ≡ q.exponent)
-same_old [] p q a b = absurd a
-same_old (s ∷ ss) p q a b = (a.1 ∙ sym b.1, a.2 ∙ sym b.2)
+-- ---- an encrypted secret that is split is a creation
 
--- ---- a split anew is a creation
-
-module _ (set : List ShareFields) (group_threshold : ℕ) (groups : List Members) (random : List ℕ) (shares : List ShareFields)
-    (split : AreSplitAnew set group_threshold groups random shares) (passphrase secret : List ℕ)
-    (recovers : Recovers set split.names passphrase secret) where
-  combined : (combination_of set split.names ≡ Ok split.encrypted) × IsUnrefused split.old group_threshold groups random split.encrypted
-  combined = judged_ok split.old group_threshold groups random (combination_of set split.names) split.encrypted split.judged
+module _ (old : Params) (group_threshold : ℕ) (groups : List Members) (random encrypted : List ℕ) (shares : List ShareFields)
+    (made : IsCreatedFromEncrypted old group_threshold groups random encrypted shares) (passphrase secret : List ℕ)
+    (is : IsEncryption secret passphrase old encrypted) where
+  unrefused : IsUnrefused old group_threshold groups random encrypted
+  unrefused = (judged_ok old group_threshold groups random (Ok encrypted) encrypted made.judged).1
 
   -- the new backup has the encryption of the secret
-  pub encrypts : IsEncryption secret passphrase split.params split.encrypted
+  encrypts : IsEncryption secret passphrase made.params encrypted
   encrypts =
-      let both : Ok recovers.encrypted ≡ Ok split.encrypted = sym recovers.combined ∙ combined.0 in
-      let encrypted : recovers.encrypted ≡ split.encrypted = cc in
-      let old = same_old set split.old recovers.params split.old_are recovers.params_are in
-      with_other_identifier recovers.params split.params (sym old.0 ∙ combined.1.extendable) (split.new.extendable ∙ combined.1.extendable)
-      (sym old.1 ∙ sym split.new.exponent) passphrase secret split.encrypted
-      (subst (IsEncryption secret passphrase recovers.params) encrypted recovers.secret_is)
+      with_other_identifier old made.params unrefused.extendable (made.new.extendable ∙ unrefused.extendable) (sym made.new.exponent)
+      passphrase secret encrypted is
 
-  pub is_created : IsCreatedFrom (asked_for secret passphrase group_threshold groups (options_of split.old)) random shares
-  is_created =
-      let levels = split.split in
+  pub made_is_created : IsCreatedFrom (asked_for secret passphrase group_threshold groups (options_of old)) random shares
+  made_is_created =
+      let levels = made.split in
       record {
-        high = split.new.high;
-        low = split.new.low;
+        high = made.new.high;
+        low = made.new.low;
         group_piece = levels.group_piece;
         pieces = levels.pieces;
-        params = split.params;
-        encrypted = split.encrypted;
+        params = made.params;
+        encrypted = encrypted;
         group_shares = levels.group_shares;
         values = levels.values;
-        consumed = split.new.consumed ∙ ap (λ (xs : List ℕ). split.new.high ∷ split.new.low ∷ xs) levels.consumed;
-        params_are = record { id = split.new.id; extendable = split.new.extendable; exponent = split.new.exponent };
+        consumed = made.new.consumed ∙ ap (λ (xs : List ℕ). made.new.high ∷ made.new.low ∷ xs) levels.consumed;
+        params_are = record { id = made.new.id; extendable = made.new.extendable; exponent = made.new.exponent };
         encryption = encrypts;
         groups_split = levels.groups_split;
         members_split = levels.members_split;
         shares_are = levels.shares_are;
       }
+
+  -- by random bytes of the right number
+  pub made_count : EncryptionKeepsLengthAndBytes → length random ≡ random_needed group_threshold groups (length secret)
+  made_count keeps = unrefused.count ∙ ap (random_needed group_threshold groups) (keeps passphrase old secret encrypted is).0
+
+-- ---- and so is a split anew
+
+module _ (set : List ShareFields) (group_threshold : ℕ) (groups : List Members) (random : List ℕ) (shares : List ShareFields)
+    (split : AreSplitAnew set group_threshold groups random shares) (passphrase secret : List ℕ)
+    (recovers : Recovers set split.names passphrase secret) where
+  -- what is split is the encryption of the secret
+  split_encrypts : IsEncryption secret passphrase split.old split.encrypted
+  split_encrypts =
+      let both : Ok recovers.encrypted ≡ Ok split.encrypted = sym recovers.combined ∙ split.combined in
+      let encrypted : recovers.encrypted ≡ split.encrypted = cc in
+      subst (λ (p : Params). IsEncryption secret passphrase p split.encrypted)
+      (one_params set recovers.params split.old recovers.params_are split.old_are)
+      (subst (IsEncryption secret passphrase recovers.params) encrypted recovers.secret_is)
+
+  pub is_created : IsCreatedFrom (asked_for secret passphrase group_threshold groups (options_of split.old)) random shares
+  is_created = made_is_created split.old group_threshold groups random split.encrypted shares split.created passphrase secret split_encrypts
 
   -- the secret consists of bytes
   pub secret_bytes : EncryptionKeepsLengthAndBytes → IsExactQuorum set split.names → AreBytes secret
@@ -184,10 +176,8 @@ module _ (set : List ShareFields) (group_threshold : ℕ) (groups : List Members
       (keeps passphrase recovers.params secret recovers.encrypted recovers.secret_is).2
       (encrypted_like set split.names exact recovers.encrypted recovers.combined).1
 
-  -- by random bytes of the right number
   pub count_is : EncryptionKeepsLengthAndBytes → length random ≡ random_needed group_threshold groups (length secret)
-  count_is keeps =
-      combined.1.count ∙ ap (random_needed group_threshold groups) (keeps passphrase split.params secret split.encrypted encrypts).0
+  count_is = made_count split.old group_threshold groups random split.encrypted shares split.created passphrase secret split_encrypts
 
 -- the least quorum is the one that recovers
 pub least_recovers : (set : List ShareFields) (group_threshold : ℕ) (groups : List Members) (random : List ℕ) (shares : List ShareFields)
@@ -214,9 +204,8 @@ pub least_secret : (set : List ShareFields) (group_threshold : ℕ) (groups : Li
     → AreSplitAnew set group_threshold groups random shares → IsLeastQuorum set names
     → (secret : List ℕ) × Recovers set names passphrase secret
 least_secret set group_threshold groups random shares names passphrase once outcome split least =
-    let combines = (judged_ok split.old group_threshold groups random (combination_of set split.names) split.encrypted split.judged).0 in
     secret_of set names passphrase split.encrypted
-    (ap (combination_of set) (once names split.names least split.least) ∙ combines) outcome
+    (ap (combination_of set) (once names split.names least split.least) ∙ split.combined) outcome
 
 -- ---- the identifier of the new backup
 
@@ -232,54 +221,40 @@ pub identifiers_differ : (set : List ShareFields) (group_threshold : ℕ) (group
     (old new : ShareFields) → IsShareSet set → AreSplitAnew set group_threshold groups random shares → Contains set old → Contains shares new
     → old.id ≡ new.id → ⊥
 identifiers_differ set group_threshold groups random shares old new is split in_old in_new same =
-    let ok = judged_ok split.old group_threshold groups random (combination_of set split.names) split.encrypted split.judged in
-    let created = in_created_groups split.params group_threshold (length groups) groups split.split.values 0 new
-    (subst (λ (xs : List ShareFields). Contains xs new) split.split.shares_are in_new) in
-    let theirs : new.id ≡ split.params.id = ap (λ (s : ShareFields). s.id) created.share_is in
-    let drawn : identifier_of split.new.high split.new.low ≡ split.old.id =
-    sym split.new.id ∙ sym theirs ∙ sym same ∙ same_id set split.old old is split.old_are in_old in
-    eqb-false (identifier_of split.new.high split.new.low) split.old.id
-    (sym (ap (λ (xs : List ℕ). gives_identifier xs split.old.id) split.new.consumed) ∙ ok.1.other) drawn
+    let made = split.created in
+    let ok = judged_ok split.old group_threshold groups random (Ok split.encrypted) split.encrypted made.judged in
+    let created = in_created_groups made.params group_threshold (length groups) groups made.split.values 0 new
+    (subst (λ (xs : List ShareFields). Contains xs new) made.split.shares_are in_new) in
+    let theirs : new.id ≡ made.params.id = ap (λ (s : ShareFields). s.id) created.share_is in
+    let drawn : identifier_of made.new.high made.new.low ≡ split.old.id =
+    sym made.new.id ∙ sym theirs ∙ sym same ∙ same_id set split.old old is split.old_are in_old in
+    eqb-false (identifier_of made.new.high made.new.low) split.old.id
+    (sym (ap (λ (xs : List ℕ). gives_identifier xs split.old.id) made.new.consumed) ∙ ok.1.other) drawn
 
--- ---- there is one
+-- ---- an encrypted secret gives one thing
 
-module _ (set : List ShareFields) (group_threshold : ℕ) (groups : List Members) (random : List ℕ) (is_set : IsShareSet set)
-    (outcome_of : (names : Names) → IsQuorum set names → (outcome : Result (List ℕ) Mismatch) × IsOutcome set names [] outcome) where
-  module _ (exact : (names : Names) → IsQuorum set names → IsExactQuorum set names) (keeps : EncryptionKeepsLengthAndBytes)
-      (encrypts_once : SecretsHaveOneEncryption)
-      (length_of : (names : Names) (secret : List ℕ) → IsQuorum set names → Recovers set names [] secret → IsSecretLength (length secret))
+module _ (group_threshold : ℕ) (groups : List Members) (random : List ℕ) (old : Params) (encrypted secret : List ℕ)
+    (is : IsEncryption secret [] old encrypted) where
+  module _ (keeps : EncryptionKeepsLengthAndBytes) (encrypts_once : SecretsHaveOneEncryption) (is_length : IsSecretLength (length secret))
+      (bytes : AreBytes secret)
       (create : (secret : List ℕ) (options : Options) → IsSecretLength (length secret) → AreBytes secret
       → length random ≡ random_needed group_threshold groups (length secret)
       → (shares : List ShareFields) × IsCreatedFrom (asked_for secret [] group_threshold groups options) random shares) where
     -- what isn't refused is split
-    split_exists : (names : Names) (old : Params) (encrypted : List ℕ) → IsLeastQuorum set names → AreParams set old
-        → judged_split old group_threshold groups random (combination_of set names) ≡ Ok encrypted
-        → (shares : List ShareFields) × AreSplitAnew set group_threshold groups random shares
-    split_exists names old encrypted least are judged =
-        let ok = judged_ok old group_threshold groups random (combination_of set names) encrypted judged in
-        let (secret, recovers) = secret_of set names [] encrypted ok.0 (outcome_of names least.quorum) in
-        let both : Ok recovers.encrypted ≡ Ok encrypted = sym recovers.combined ∙ ok.0 in
-        let same : recovers.encrypted ≡ encrypted = cc in
-        let kept = keeps [] recovers.params secret recovers.encrypted recovers.secret_is in
-        let is_length = length_of names secret least.quorum recovers in
-        let bytes : AreBytes secret = kept.2 (encrypted_like set names (exact names least.quorum) recovers.encrypted recovers.combined).1 in
-        let long : length encrypted ≡ length secret = ap length (sym same) ∙ kept.0 in
-        let (shares, created) = create secret (options_of old) is_length bytes (ok.1.count ∙ ap (random_needed group_threshold groups) long) in
-        let theirs = same_old set old recovers.params are recovers.params_are in
+    some_made : judged_split old group_threshold groups random (Ok encrypted) ≡ Ok encrypted
+        → (shares : List ShareFields) × IsCreatedFromEncrypted old group_threshold groups random encrypted shares
+    some_made judged =
+        let ok = (judged_ok old group_threshold groups random (Ok encrypted) encrypted judged).1 in
+        let long = (keeps [] old secret encrypted is).0 in
+        let (shares, created) = create secret (options_of old) is_length bytes (ok.count ∙ ap (random_needed group_threshold groups) long) in
         let again : IsEncryption secret [] created.params encrypted =
-        with_other_identifier recovers.params created.params (sym theirs.0 ∙ ok.1.extendable) (created.params_are.extendable ∙ ok.1.extendable)
-        (sym theirs.1 ∙ sym created.params_are.exponent) [] secret encrypted
-        (subst (IsEncryption secret [] recovers.params) same recovers.secret_is) in
+        with_other_identifier old created.params ok.extendable (created.params_are.extendable ∙ ok.extendable) (sym created.params_are.exponent)
+        [] secret encrypted is in
         let (result, of_result, only) = encrypts_once [] created.params secret is_length.0 in
         let encrypted_is : created.encrypted ≡ encrypted = only created.encrypted created.encryption ∙ sym (only encrypted again) in (
           shares,
           record {
-            names = names;
-            old = old;
-            encrypted = encrypted;
             params = created.params;
-            least = least;
-            old_are = are;
             judged = judged;
             new = record {
               high = created.high;
@@ -304,74 +279,140 @@ module _ (set : List ShareFields) (group_threshold : ℕ) (groups : List Members
           },
         )
 
-    pub resplit_exists : (names : Names) → IsLeastQuorum set names
-        → (result : Result (List ShareFields) ResplitError) × IsResplit set group_threshold groups random result
-    resplit_exists names least = by (judged_split old group_threshold groups random (combination_of set names)) refl
+    pub some_creation : (result : Result (List ShareFields) ResplitError)
+        × IsCreationFromEncrypted old group_threshold groups random encrypted result
+    some_creation = by (judged_split old group_threshold groups random (Ok encrypted)) refl
       where
-        quorum : IsExactQuorum set names
-        quorum = exact names least.quorum
+        by : (judged : Result (List ℕ) ResplitError) → judged_split old group_threshold groups random (Ok encrypted) ≡ judged
+            → (result : Result (List ShareFields) ResplitError) × IsCreationFromEncrypted old group_threshold groups random encrypted result
+        by (Err error) refused = (Err error, refused)
+        by (Ok kept) judged =
+            let both = (judged_ok old group_threshold groups random (Ok encrypted) kept judged).0 in
+            let same : kept ≡ encrypted = cc in
+            let (shares, made) = some_made (judged ∙ ap (λ (e : List ℕ). Ok e) same) in (Ok shares, made)
 
-        share : (share : ShareFields) × Contains set share
-        share = some_share set (length (groups_of names)) (group_threshold_is set names quorum)
+  module _ (created_once : (asked : Asked) (shares other : List ShareFields) → IsCreatedFrom asked random shares → IsCreatedFrom asked random other
+      → shares ≡ other) where
+    made_once : (shares other : List ShareFields) → IsCreatedFromEncrypted old group_threshold groups random encrypted shares
+        → IsCreatedFromEncrypted old group_threshold groups random encrypted other → shares ≡ other
+    made_once shares other made also =
+        created_once (asked_for secret [] group_threshold groups (options_of old)) shares other
+        (made_is_created old group_threshold groups random encrypted shares made [] secret is)
+        (made_is_created old group_threshold groups random encrypted other also [] secret is)
 
-        params : (params : Params) × AreParams set params
-        params = params_of_share set share.0 is_set share.1
+    pub creation_once : (result other : Result (List ShareFields) ResplitError)
+        → IsCreationFromEncrypted old group_threshold groups random encrypted result
+        → IsCreationFromEncrypted old group_threshold groups random encrypted other → result ≡ other
+    creation_once (Ok shares) (Ok other) made also = ap (λ (xs : List ShareFields). Ok xs) (made_once shares other made also)
+    creation_once (Ok shares) (Err error) made refused = absurd (let both : Ok encrypted ≡ Err error = sym made.judged ∙ refused in cc)
+    creation_once (Err error) (Ok shares) refused made = absurd (let both : Ok encrypted ≡ Err error = sym made.judged ∙ refused in cc)
+    creation_once (Err error) (Err other) refused also = let both : Err error ≡ Err other = sym refused ∙ also in cc
 
-        old : Params
-        old = params.0
+-- ---- a set gives what its encrypted secret gives
 
-        by : (judged : Result (List ℕ) ResplitError) → judged_split old group_threshold groups random (combination_of set names) ≡ judged
-            → (result : Result (List ShareFields) ResplitError) × IsResplit set group_threshold groups random result
-        by (Err error) is = (Err error, inr (record { names = names; old = old; least = least; old_are = params.1; judged = is }))
-        by (Ok encrypted) is = let (shares, split) = split_exists names old encrypted least params.1 is in (Ok shares, split)
+module _ (set : List ShareFields) (group_threshold : ℕ) (groups : List Members) (random : List ℕ) (names : Names) (old : Params)
+    (encrypted : List ℕ) (least : IsLeastQuorum set names) (are : AreParams set old) (combined : combination_of set names ≡ Ok encrypted) where
+  pub set_gives : (result : Result (List ShareFields) ResplitError) → IsCreationFromEncrypted old group_threshold groups random encrypted result
+      → IsResplit set group_threshold groups random result
+  set_gives (Ok shares) made = record {
+    names = names;
+    old = old;
+    encrypted = encrypted;
+    least = least;
+    old_are = are;
+    combined = combined;
+    created = made;
+  }
+  set_gives (Err error) judged = inr (record {
+    names = names;
+    old = old;
+    least = least;
+    old_are = are;
+    judged = ap (judged_split old group_threshold groups random) combined ∙ judged;
+  })
 
-  module _ (once : (names others : Names) → IsLeastQuorum set names → IsLeastQuorum set others → names ≡ others) where
-    -- one thing is judged
-    same_judged : (names others : Names) (old other : Params) → IsLeastQuorum set names → IsLeastQuorum set others → AreParams set old → AreParams set other
-        → judged_split old group_threshold groups random (combination_of set names)
-        ≡ judged_split other group_threshold groups random (combination_of set others)
-    same_judged names others old other least also are theirs =
-        ap₂ (λ (ns : Names) (p : Params). judged_split p group_threshold groups random (combination_of set ns))
-        (once names others least also) (one_params set old other are theirs)
+  pub encrypted_gives : ((names others : Names) → IsLeastQuorum set names → IsLeastQuorum set others → names ≡ others) → SetsWithQuorumsHaveNone
+      → (result : Result (List ShareFields) ResplitError) → IsResplit set group_threshold groups random result
+      → IsCreationFromEncrypted old group_threshold groups random encrypted result
+  encrypted_gives once no_lack (Ok shares) split =
+      let both : Ok split.encrypted ≡ Ok encrypted =
+      sym split.combined ∙ ap (combination_of set) (once split.names names split.least least) ∙ combined in
+      let same : split.encrypted ≡ encrypted = cc in
+      subst (λ (p : Params). IsCreatedFromEncrypted p group_threshold groups random encrypted shares)
+      (one_params set split.old old split.old_are are)
+      (subst (λ (e : List ℕ). IsCreatedFromEncrypted split.old group_threshold groups random e shares) same split.created)
+  encrypted_gives once no_lack (Err error) (inl (lack, lacks, same)) = absurd (no_lack set names lack least.quorum lacks)
+  encrypted_gives once no_lack (Err error) (inr refused) =
+      sym (ap (judged_split old group_threshold groups random) combined)
+      ∙ ap₂ (λ (ns : Names) (p : Params). judged_split p group_threshold groups random (combination_of set ns))
+      (once names refused.names least refused.least) (one_params set old refused.old are refused.old_are)
+      ∙ refused.judged
 
-    module _ (created_once : (asked : Asked) (shares other : List ShareFields) → IsCreatedFrom asked random shares → IsCreatedFrom asked random other
-        → shares ≡ other) where
-      shares_once : (shares other : List ShareFields) → AreSplitAnew set group_threshold groups random shares
-          → AreSplitAnew set group_threshold groups random other → shares ≡ other
-      shares_once shares other is also =
-          let ok = judged_ok is.old group_threshold groups random (combination_of set is.names) is.encrypted is.judged in
-          let (secret, recovers) = secret_of set is.names [] is.encrypted ok.0 (outcome_of is.names is.least.quorum) in
-          let theirs = same_old set also.old is.old also.old_are is.old_are in
-          let options : options_of also.old ≡ options_of is.old = same_options (options_of also.old) (options_of is.old) theirs.0 theirs.1 in
-          let second = is_created set group_threshold groups random other also [] secret
-          (least_recovers set group_threshold groups random other is.names [] secret once also is.least recovers) in
-          created_once (asked_for secret [] group_threshold groups (options_of is.old)) shares other
-          (is_created set group_threshold groups random shares is [] secret recovers)
-          (subst (λ (o : Options). IsCreatedFrom (asked_for secret [] group_threshold groups o) random other) options second)
+-- ---- there is one
 
-      module _ (one_lack : SetsHaveOneLack) (no_lack : SetsWithQuorumsHaveNone) where
-        not_refused : (shares : List ShareFields) (error : ResplitError) → AreSplitAnew set group_threshold groups random shares
-            → IsResplit set group_threshold groups random (Err error) → ⊥
-        not_refused shares error is (inl (lack, lacks, same)) = no_lack set is.names lack is.least.quorum lacks
-        not_refused shares error is (inr refused) =
-            let both : Ok is.encrypted ≡ Err error = sym is.judged
-            ∙ same_judged is.names refused.names is.old refused.old is.least refused.least is.old_are refused.old_are ∙ refused.judged in
-            cc
+module _ (set : List ShareFields) (group_threshold : ℕ) (groups : List Members) (random : List ℕ) (is_set : IsShareSet set)
+    (outcome_of : (names : Names) → IsQuorum set names → (outcome : Result (List ℕ) Mismatch) × IsOutcome set names [] outcome) where
+  pub resplit_exists : (exact : (names : Names) → IsQuorum set names → IsExactQuorum set names) (keeps : EncryptionKeepsLengthAndBytes)
+      (encrypts_once : SecretsHaveOneEncryption)
+      (length_of : (names : Names) (secret : List ℕ) → IsQuorum set names → Recovers set names [] secret → IsSecretLength (length secret))
+      (create : (secret : List ℕ) (options : Options) → IsSecretLength (length secret) → AreBytes secret
+      → length random ≡ random_needed group_threshold groups (length secret)
+      → (shares : List ShareFields) × IsCreatedFrom (asked_for secret [] group_threshold groups options) random shares)
+      (names : Names) → IsLeastQuorum set names
+      → (result : Result (List ShareFields) ResplitError) × IsResplit set group_threshold groups random result
+  resplit_exists exact keeps encrypts_once length_of create names least = by (outcome_of names least.quorum)
+    where
+      quorum : IsExactQuorum set names
+      quorum = exact names least.quorum
 
-        error_once : (error other : ResplitError) → IsResplit set group_threshold groups random (Err error)
-            → IsResplit set group_threshold groups random (Err other) → error ≡ other
-        error_once error other (inl (lack, lacks, same)) (inl (second, also, theirs)) =
-            same ∙ ap (λ (l : SetLack). Lack l) (one_lack set lack second lacks also) ∙ sym theirs
-        error_once error other (inl (lack, lacks, same)) (inr refused) = absurd (no_lack set refused.names lack refused.least.quorum lacks)
-        error_once error other (inr refused) (inl (lack, lacks, same)) = absurd (no_lack set refused.names lack refused.least.quorum lacks)
-        error_once error other (inr is) (inr also) =
-            let both : Err error ≡ Err other = sym is.judged
-            ∙ same_judged is.names also.names is.old also.old is.least also.least is.old_are also.old_are ∙ also.judged in
-            cc
+      params : (params : Params) × AreParams set params
+      params =
+          let share = some_share set (length (groups_of names)) (group_threshold_is set names quorum) in
+          params_of_share set share.0 is_set share.1
 
-        pub resplit_once : (result other : Result (List ShareFields) ResplitError) → IsResplit set group_threshold groups random result
-            → IsResplit set group_threshold groups random other → result ≡ other
-        resplit_once (Ok shares) (Ok other) r s = ap (λ (xs : List ShareFields). Ok xs) (shares_once shares other r s)
-        resplit_once (Ok shares) (Err error) r s = absurd (not_refused shares error r s)
-        resplit_once (Err error) (Ok shares) r s = absurd (not_refused shares error s r)
-        resplit_once (Err error) (Err other) r s = ap (λ (e : ResplitError). Err e) (error_once error other r s)
+      by : (outcome : Result (List ℕ) Mismatch) × IsOutcome set names [] outcome
+          → (result : Result (List ShareFields) ResplitError) × IsResplit set group_threshold groups random result
+      by (Err mismatch, is) = (Err (DigestMismatch mismatch), inr (record {
+        names = names;
+        old = params.0;
+        least = least;
+        old_are = params.1;
+        judged = ap (judged_split params.0 group_threshold groups random) is;
+      }))
+      by (Ok secret, recovers) =
+          let kept = keeps [] recovers.params secret recovers.encrypted recovers.secret_is in
+          let bytes : AreBytes secret = kept.2 (encrypted_like set names quorum recovers.encrypted recovers.combined).1 in
+          let (result, creation) = some_creation group_threshold groups random recovers.params recovers.encrypted secret recovers.secret_is keeps
+          encrypts_once (length_of names secret least.quorum recovers) bytes create in
+          (result, set_gives set group_threshold groups random names recovers.params recovers.encrypted least recovers.params_are recovers.combined
+          result creation)
+
+  module _ (once : (names others : Names) → IsLeastQuorum set names → IsLeastQuorum set others → names ≡ others)
+      (created_once : (asked : Asked) (shares other : List ShareFields) → IsCreatedFrom asked random shares → IsCreatedFrom asked random other
+      → shares ≡ other) (one_lack : SetsHaveOneLack) (no_lack : SetsWithQuorumsHaveNone) where
+    -- what is split is one thing
+    split_once : (shares : List ShareFields) (other : Result (List ShareFields) ResplitError) → AreSplitAnew set group_threshold groups random shares
+        → IsResplit set group_threshold groups random other → Ok shares ≡ other
+    split_once shares other is also =
+        let (secret, recovers) = secret_of set is.names [] is.encrypted is.combined (outcome_of is.names is.least.quorum) in
+        creation_once group_threshold groups random is.old is.encrypted secret
+        (split_encrypts set group_threshold groups random shares is [] secret recovers) created_once (Ok shares) other is.created
+        (encrypted_gives set group_threshold groups random is.names is.old is.encrypted is.least is.old_are is.combined once no_lack other also)
+
+    error_once : (error other : ResplitError) → IsResplit set group_threshold groups random (Err error)
+        → IsResplit set group_threshold groups random (Err other) → error ≡ other
+    error_once error other (inl (lack, lacks, same)) (inl (second, also, theirs)) =
+        same ∙ ap (λ (l : SetLack). Lack l) (one_lack set lack second lacks also) ∙ sym theirs
+    error_once error other (inl (lack, lacks, same)) (inr refused) = absurd (no_lack set refused.names lack refused.least.quorum lacks)
+    error_once error other (inr refused) (inl (lack, lacks, same)) = absurd (no_lack set refused.names lack refused.least.quorum lacks)
+    error_once error other (inr is) (inr also) =
+        let both : Err error ≡ Err other = sym is.judged
+        ∙ ap₂ (λ (ns : Names) (p : Params). judged_split p group_threshold groups random (combination_of set ns))
+        (once is.names also.names is.least also.least) (one_params set is.old also.old is.old_are also.old_are) ∙ also.judged in
+        cc
+
+    pub resplit_once : (result other : Result (List ShareFields) ResplitError) → IsResplit set group_threshold groups random result
+        → IsResplit set group_threshold groups random other → result ≡ other
+    resplit_once (Ok shares) other r s = split_once shares other r s
+    resplit_once (Err error) (Ok shares) r s = sym (split_once shares (Err error) s r)
+    resplit_once (Err error) (Err other) r s = ap (λ (e : ResplitError). Err e) (error_once error other r s)

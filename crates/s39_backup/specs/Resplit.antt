@@ -11,6 +11,7 @@ use Rattle.s39_set.specs.Quorums.{IsLeastQuorum}
 use Rattle.s39_set.specs.Lack.{IsLack, cause_of}
 use Rattle.s39_set.specs.declared.set_lack.SetLack.{SetLack}
 use Rattle.s39_backup.specs.declared.plan.Members.{Members}
+use Rattle.s39_backup.specs.declared.options.Options.{Options}
 use Rattle.s39_backup.specs.declared.combination.Mismatch.{Mismatch}
 use Rattle.s39_backup.specs.declared.resplit_error.ResplitError.{ResplitError}
 use Rattle.s39_backup.specs.declared.resplit_error.ResplitError.TheVariants.{Lack, DigestMismatch, NotExtendable, BadRandomLength, SameIdentifier}
@@ -43,6 +44,10 @@ pub record AreNewParams (old : Params) (random : List ℕ) (params : Params) : T
   pub extendable : params.extendable ≡ old.extendable
   pub exponent : params.exponent ≡ old.exponent
 
+-- the options of parameters
+abbrev pub options_of : Params → Options
+options_of params = record { exponent = params.exponent; extendable = params.extendable; exponent_in_range = params.exponent_in_range }
+
 -- the first two random bytes give this identifier
 abbrev pub gives_identifier : List ℕ → ℕ → Bool
 gives_identifier [] id = false
@@ -61,18 +66,30 @@ judged_split params group_threshold groups random (Ok encrypted) =
     else if gives_identifier random params.id then Err SameIdentifier
     else Ok encrypted
 
+module _ (old : Params) (group_threshold : ℕ) (groups : List Members) (random encrypted : List ℕ) where
+  -- the shares of a new backup with this encrypted secret of a backup with the old parameters: it is split by the plan
+  pub record IsCreatedFromEncrypted (shares : List ShareFields) : Type 0 where
+    pub params : Params
+    pub judged : judged_split old group_threshold groups random (Ok encrypted) ≡ Ok encrypted
+    pub new : AreNewParams old random params
+    pub split : AreSplitByPlan params group_threshold groups encrypted new.levels shares
+
+  -- what an encrypted secret, a plan and random bytes give: the shares of a new backup, or the first cause for which there
+  -- are none
+  abbrev pub IsCreationFromEncrypted : Result (List ShareFields) ResplitError → Type 0
+  IsCreationFromEncrypted (Ok shares) = IsCreatedFromEncrypted shares
+  IsCreationFromEncrypted (Err error) = judged_split old group_threshold groups random (Ok encrypted) ≡ Err error
+
 module _ (set : List ShareFields) (group_threshold : ℕ) (groups : List Members) (random : List ℕ) where
   -- the shares of the new backup: the encrypted secret to which the least quorum of the set combines is split by the plan
   pub record AreSplitAnew (shares : List ShareFields) : Type 0 where
     pub names : Names
     pub old : Params
     pub encrypted : List ℕ
-    pub params : Params
     pub least : IsLeastQuorum set names
     pub old_are : AreParams set old
-    pub judged : judged_split old group_threshold groups random (combination_of set names) ≡ Ok encrypted
-    pub new : AreNewParams old random params
-    pub split : AreSplitByPlan params group_threshold groups encrypted new.levels shares
+    pub combined : combination_of set names ≡ Ok encrypted
+    pub created : IsCreatedFromEncrypted old group_threshold groups random encrypted shares
 
   -- the encrypted secret to which the least quorum combines isn't split, and this is the first cause that applies
   pub record IsRefusedSplit (error : ResplitError) : Type 0 where

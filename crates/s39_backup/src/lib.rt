@@ -1,14 +1,14 @@
 //! Backups by SLIP-0039: this crate parses plans (`Plan`), creates backups (`create`), combines the shares of a quorum
 //! (`combine_quorum`), recovers its secret (`recover_by`, `recover_quorum`), and computes missing shares from others
-//! (`reissue`). `resplit` splits the encrypted secret of an extendable backup by another plan. `refit` computes random
-//! bytes by which a backup of another secret has the same shares.
+//! (`reissue`). `resplit` splits the encrypted secret of an extendable backup by another plan, and `create_from_encrypted`
+//! one that the caller has. `refit` computes random bytes by which a backup of another secret has the same shares.
 //!
 //! A quorum is a set of shares that meets the thresholds, while none of its proper subsets does.
 //!
 //! The crate reads no device and no lines of text, and it allocates no memory.
 //!
 //! The examples also use `parse` and `print` of `s39_words`, `ShareSet`, `first` and `parse_quorum` of `s39_set`, and
-//! `Bytes` and `Params` of `s39_kdf`. In them `rt` is the runtime, or a reference to it.
+//! `Bytes`, `Params` and `check_secret` of `s39_kdf`. In them `rt` is the runtime, or a reference to it.
 #![tactic(auto)]
 
 mod at_hand;
@@ -45,4 +45,4 @@ pub use plan_error::PlanError;
 pub use refitting::refit;
 pub use reissue_error::{ReissueError, TooFew};
 pub use resplit_error::ResplitError;
-pub use resplitting::resplit;
+pub use resplitting::{create_from_encrypted, resplit};

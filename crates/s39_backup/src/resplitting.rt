@@ -1,13 +1,14 @@
-//! Backups whose encrypted secret is split anew, by another plan (SLIP-0039, "Shamir's secret sharing").
+//! Backups whose encrypted secret is split, by a plan, without a passphrase (SLIP-0039, "Shamir's secret sharing").
 ghost use Rattle.std.specs.Prelude.{◌≡◌, ℕ, List, Ok, Err, IfOk, IfErr, OnOk, OnErr};
 ghost use Rattle.std.specs.Result.{result_map_both};
 ghost use Rattle.arrayvec.specs.ArrayVec.{array_vec_len};
+ghost use Rattle.s39_kdf.specs.Cipher.{IsEncryption};
 ghost use Rattle.s39_kdf.specs.Limits.{IsSecretLength};
 ghost use Rattle.s39_set.specs.Names.{Names};
 ghost use Rattle.s39_set.specs.Quorums.{IsLeastQuorum};
 ghost use Rattle.s39_backup.specs.Outcome.{IsOutcome};
 ghost use Rattle.s39_backup.specs.Created.{AreOfBackup};
-ghost use Rattle.s39_backup.specs.Resplit.{AreNewParams, judged_split, IsResplit};
+ghost use Rattle.s39_backup.specs.Resplit.{AreNewParams, judged_split, IsCreationFromEncrypted, IsResplit};
 
 use crate::combination::{combine_quorum, params_of};
 use crate::created::Created;
@@ -15,7 +16,7 @@ use crate::creation::{ID_BYTES, params_from, split_encrypted};
 use crate::options::Options;
 use crate::plan::Plan;
 use crate::resplit_error::ResplitError;
-use crate::resplit_laws::resplits_are_created_backups;
+use crate::resplit_laws::{encrypted_secrets_are_split_as_created, resplits_are_created_backups};
 use s39_kdf::{Bytes, Params};
 use s39_set::{ShareSet, are_a_share_set, first};
 
@@ -77,8 +78,59 @@ pub fn resplit(
     let quorum = first(set)?;
     let old = params_of(set, &quorum);
     let encrypted = combine_quorum(set, &quorum)?;
-    let params = new_params(plan, old, &encrypted, random)?;
-    split_encrypted(plan, &encrypted, params, &random[ID_BYTES..], out);
+    create_from_encrypted(plan, old, &encrypted, random, out)
+}
+
+/// Creates a backup of the encrypted secret of an extendable backup, by a plan, without a passphrase and without the
+/// secret (SLIP-0039, "Shamir's secret sharing"). It replaces the shares that `out` had with those of the new backup,
+/// ordered by group and then by member.
+///
+/// `old` are the parameters by which the secret is encrypted. The new backup has their extendable flag and their iteration
+/// exponent. With any passphrase, each quorum of the new shares recovers the secret that this passphrase decrypts. The
+/// random bytes are as many as `create` takes, and are consumed in the same order.
+///
+/// The caller makes sure that the encrypted secret is as long as a secret (`s39_kdf::check_secret`).
+///
+/// The first error that applies is returned, and then `out` is unchanged:
+///
+/// - `NotExtendable` if the backup isn't extendable;
+/// - `BadRandomLength` if there are more or fewer random bytes than `Plan::random_needed` says, with that number;
+/// - `SameIdentifier` if the first two random bytes give the identifier of `old`.
+///
+/// ```rust
+/// let encrypted =
+///     check_secret(b"\x14\xd7\x86\xbd\xb0\x0a\x6f\xef\x14\x16\x3f\x4e\xc9\x9b\xf2\x60")?;
+/// let old = Params {
+///     id: 7945,
+///     extendable: true,
+///     exponent: 2,
+/// };
+/// let plan = Plan::parse("1of1")?;
+/// let mut created = Created::new();
+/// create_from_encrypted(&plan, old, &encrypted, b"\x5a\x17", &mut created)?;
+/// assert!(rt; print(&created.shares()[0]).starts_with(b"race retailer academic academic aircraft "));
+/// ```
+pub fn create_from_encrypted(
+    plan: &Plan,
+    old: Params,
+    encrypted: &Bytes,
+    random: &[u8],
+    out: &mut Created,
+) -> Result<(), ResplitError>
+    requires { IsSecretLength (array_vec_len encrypted.now) }
+    ensures created { OnOk result (IsCreationFromEncrypted old plan.now.group_threshold
+        plan.now.groups.items random.now encrypted.now.items (Ok out.new)) }
+    ensures refused { IfErr result (λ error. IsCreationFromEncrypted old plan.now.group_threshold
+        plan.now.groups.items random.now encrypted.now.items (Err error)) }
+    ensures unchanged { OnErr result (out.new ≡ out.old) }
+    // The new shares are of a backup of the secret that is encrypted, with any passphrase.
+    ensures of_backup { (passphrase secret : List ℕ)
+        → IsEncryption secret passphrase old encrypted.now.items
+        → OnOk result (AreOfBackup out.new passphrase secret) }
+{
+    encrypted_secrets_are_split_as_created();
+    let params = new_params(plan, old, encrypted, random)?;
+    split_encrypted(plan, encrypted, params, &random[ID_BYTES..], out);
     Ok(())
 }
 

@@ -8,3 +8,4 @@ mod MostExponents
 mod Rooms
 mod WordLines
 mod OneRepair
+mod Compositions

@@ -24,7 +24,6 @@ use Rattle.s39_kdf.specs.declared.secret_form.SecretForm.{SecretForm}
 use Rattle.s39_input.specs.Input.{Input, lines_in, whole}
 use Rattle.s39_input.specs.Create.{IsCreateOutput}
 use Rattle.s39_creating.specs.Reissue.{IsReissueOutput}
-use Rattle.s39_creating.specs.Resplit.{IsResplitOutput}
 use Rattle.s39_drilling.specs.Drill.{IsDrillOutput}
 use Rattle.s39_drilling.specs.Slices.{Lists}
 use Rattle.s39_c.specs.declared.answer.ShamirAnswer.{ShamirAnswer}
@@ -130,12 +129,11 @@ module _ (one_plan_reading : (text : List ℕ) → AtMostOne (IsPlanReading text
       (λ plan _. let asked = asked_for wanted.secret wanted.passphrase plan.0 plan.1 options in
       output_once (λ text. created (length text) (lines_in text)) (IsCreateOutput asked (whole random)) old (one_create_output asked (whole random))))
 
-  pub split_once : ((threshold : ℕ) (groups : List Members) (random : List ℕ) (input : Input) → OneOutput (IsResplitOutput threshold groups random input))
-      → (plan lines random old : List ℕ) → Once (GivesSplit (λ threshold groups. IsResplitOutput threshold groups random (whole lines)) plan old)
-  split_once one_resplit_output plan lines random old =
+  pub split_once : (IsOutput : ℕ → List Members → List ℕ → Result (Unit {0}) Fault → Type 0)
+      → ((threshold : ℕ) (groups : List Members) → OneOutput (IsOutput threshold groups)) → (plan old : List ℕ) → Once (GivesSplit IsOutput plan old)
+  split_once IsOutput one plan old =
       step_once (IsPlanReading plan) plan_refused _ old (one_plan_reading plan)
-      (λ read _. output_once (λ text. created (length text) (lines_in text)) (IsResplitOutput read.0 read.1 random (whole lines)) old
-      (one_resplit_output read.0 read.1 random (whole lines)))
+      (λ read _. output_once (λ text. created (length text) (lines_in text)) (IsOutput read.0 read.1) old (one read.0 read.1))
 
   pub reissue_once : ((text : List ℕ) (names others : Names) → IsWrittenForm text names → IsWrittenForm text others → names ≡ others)
       → ((threshold : ℕ) (groups : List Members) (names : Names) (input : Input) (text other : List ℕ) (answer another : Result (Unit {0}) Fault)

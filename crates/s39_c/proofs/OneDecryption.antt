@@ -45,7 +45,7 @@ numbers id extendable exponent = record { id = id; extendable = extendable; expo
 of_params : (params : Params) → AreInRange (parameters_of params)
 of_params params = (params.id_in_range, flag_bit_low params.extendable, params.exponent_in_range)
 
-parameters_once : (parameters : ShamirParameters) → AtMostOne (AreParameters parameters)
+pub parameters_once : (parameters : ShamirParameters) → AtMostOne (AreParameters parameters)
 parameters_once parameters (Ok p) (Ok q) is also =
     let same : parameters_of p ≡ parameters_of q = sym is ∙ also in
     ap Ok (same_params p q (ap (λ (r : ShamirParameters). r.id) same)

@@ -27,6 +27,7 @@ use Rattle.s39_backup.specs.declared.plan_error.PlanError.TheVariants.{BadPlan}
 use Rattle.s39_backup.specs.Created.{Asked, asked_for}
 use Rattle.s39_backup.specs.Plan.{plan_cause_of}
 use Rattle.s39_backup.specs.RecoverError.{mismatch_cause_of}
+use Rattle.s39_kdf.specs.declared.params.Params.{Params}
 use Rattle.s39_kdf.specs.declared.secret_form.SecretForm.{SecretForm}
 use Rattle.s39_repair.specs.declared.repair_error.RepairError.{RepairError}
 use Rattle.s39_repair.specs.declared.repair_error.RepairError.TheVariants.{NoMnemonic}
@@ -47,13 +48,14 @@ use Rattle.s39_drilling.specs.Lengths.{longest_listing}
 use Rattle.s39_creating.specs.Lengths.{longest_backup}
 use Rattle.s39_reading.specs.Lengths.{longest_status}
 use Rattle.s39_creating.specs.Reissue.{IsReissueOutput}
-use Rattle.s39_creating.specs.Resplit.{IsResplitOutput}
+use Rattle.s39_creating.specs.Resplit.{IsOutputFromEncrypted}
 use Rattle.s39_reading.specs.Status.{IsStatusOf, IsStatusOutput}
 use Rattle.s39_words.specs.declared.ShareFields.{ShareFields}
 use Rattle.s39_set.specs.ShareSet.{IsShareSet}
 use Rattle.s39_input.specs.Judging.{judgement}
 use Rattle.s39_input.specs.declared.judging.Judged.{Judged}
 use Rattle.s39_c.specs.Judging.{GivesJudgement}
+use Rattle.s39_c.specs.declared.encrypted.ShamirParameters.{ShamirParameters}
 use Rattle.s39_c.specs.declared.judging.ShamirJudgement.{ShamirJudgement}
 use Rattle.s39_c.specs.declared.answer.ShamirAnswer.{ShamirAnswer}
 use Rattle.s39_c.specs.Answers.{Gives, GivesOutputAs, created, done, too_short, refusal, refused}
@@ -64,7 +66,7 @@ use Rattle.s39_c.proofs.MostExponents.{refused_up_to}
 use Rattle.s39_input.specs.Steps.{gives as goes_on, refuses}
 use Rattle.s39_c.specs.Fingerprinting.{GivesFingerprint}
 use Rattle.s39_c.specs.Reissuing.{GivesReissued}
-use Rattle.s39_c.specs.Resplitting.{GivesSplit}
+use Rattle.s39_c.specs.Resplitting.{GivesFromEncrypted, GivesSplit}
 use Rattle.s39_c.specs.Status.{GivesStatus}
 use Rattle.s39_c.specs.Telling.{longest_text, GivesText}
 
@@ -100,7 +102,7 @@ above-line (Marks error) = above-marks error
 above-line (Set error) = above-set error
 above-line _ = omega arith
 
-above : (refusal : Refusal) → 2 ≤ (cause_of refusal).code
+pub above : (refusal : Refusal) → 2 ≤ (cause_of refusal).code
 above (Line refusal) = above-line refusal
 above (Lack lack) = above-lack lack
 above (DigestMismatch mismatch) = above-mismatch mismatch
@@ -235,15 +237,23 @@ module _ (short : (group_threshold : ℕ) (groups : List Members) (names : Names
       output_fits (λ text. done (length text)) (Is read.0 read.1 names) longest_backup
       (λ text. short read.0 read.1 names (whole lines) text form.are_names) (λ text. refl) old new needed gives
 
-module _ (short : (group_threshold : ℕ) (groups : List Members) (random : List ℕ) (input : Input) (text : List ℕ)
-    → IsResplitOutput group_threshold groups random input text (Ok tt) → length text ≤ longest_backup)
-    (plan lines random old new : List ℕ) (needed : ℕ) where
-  pub split_fits : GivesSplit (λ threshold groups. IsResplitOutput threshold groups random (whole lines)) plan old new (too_short needed)
-      → length old < longest_backup
+module _ (IsOutput : ℕ → List Members → List ℕ → Result (Unit {0}) Fault → Type 0)
+    (short : (threshold : ℕ) (groups : List Members) (text : List ℕ) → IsOutput threshold groups text (Ok tt) → length text ≤ longest_backup)
+    (plan old new : List ℕ) (needed : ℕ) where
+  pub split_fits : GivesSplit IsOutput plan old new (too_short needed) → length old < longest_backup
   split_fits (inl (error, reads, same, says)) = absurd (no_refusal needed (plan_cause_of error) 0 (above-plan error) says)
   split_fits (inr (read, is, gives)) =
-      output_fits (λ text. created (length text) (lines_in text)) (IsResplitOutput read.0 read.1 random (whole lines)) longest_backup
-      (short read.0 read.1 random (whole lines)) (λ text. refl) old new needed gives
+      output_fits (λ text. created (length text) (lines_in text)) (IsOutput read.0 read.1) longest_backup
+      (short read.0 read.1) (λ text. refl) old new needed gives
+
+module _ (encrypted random : List ℕ)
+    (short : (params : Params) (threshold : ℕ) (groups : List Members) (text : List ℕ)
+    → IsOutputFromEncrypted threshold groups random (params, encrypted) text (Ok tt) → length text ≤ longest_backup)
+    (parameters : ShamirParameters) (plan old new : List ℕ) (needed : ℕ) where
+  pub from_encrypted_fits : GivesFromEncrypted parameters encrypted random plan old new (too_short needed) → length old < longest_backup
+  from_encrypted_fits (inl (bad, range, same, says)) = let code : 2 ≡ 1 = no_other needed _ says in absurd (omega (arith, code))
+  from_encrypted_fits (inr (params, are, gives)) =
+      split_fits (λ threshold groups. IsOutputFromEncrypted threshold groups random (params, encrypted)) (short params) plan old new needed gives
 
 -- ---- the text of an answer
 

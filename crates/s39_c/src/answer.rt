@@ -37,9 +37,9 @@ pub struct ShamirAnswer {
     /// The number of the refused line, counted from 1, if a call that takes lines refuses one. Otherwise it is 0.
     pub line: u64,
     /// The first detail of a refusal: a position, a number or a group. In a digest mismatch, 16 stands for the digest
-    /// of the group shares. After success, `shamir_random_needed` gives its result here, `shamir_create`, `shamir_resplit` and
-    /// `shamir_repair` the number of mnemonics, `shamir_drill` the number of listed quorums, `shamir_quorums` the number of all,
-    /// and `shamir_status` and `shamir_judge` the number of complete groups. Otherwise it is 0.
+    /// of the group shares. After success, `shamir_random_needed` gives its result here, `shamir_create`, `shamir_resplit`,
+    /// `shamir_create_from_encrypted` and `shamir_repair` the number of mnemonics, `shamir_drill` the number of listed quorums,
+    /// `shamir_quorums` the number of all, and `shamir_status` and `shamir_judge` the number of complete groups. Otherwise it is 0.
     pub first: u64,
     /// The second detail of a refusal. After success, `shamir_drill` gives the offset of the last line in its output
     /// here, in bytes, and `shamir_status` and `shamir_judge` the group threshold. It is 0 otherwise.

@@ -13,6 +13,8 @@ pub(crate) const REPAIR: usize = 20 * KIB;
 
 pub(crate) const CREATE: usize = 96 * KIB;
 
+pub(crate) const CREATE_FROM_ENCRYPTED: usize = 96 * KIB;
+
 pub(crate) const STATUS: usize = 224 * KIB;
 
 pub(crate) const JUDGE: usize = 224 * KIB;

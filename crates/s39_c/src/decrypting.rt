@@ -69,7 +69,7 @@ fn decrypt_answer(
 }
 
 /// The parameters with these numbers, unless a number is out of its range.
-fn params_of(parameters: &ShamirParameters) -> Result<Params, ()>
+pub(crate) fn params_of(parameters: &ShamirParameters) -> Result<Params, ()>
     ensures { AreParameters parameters.now result }
 {
     if MAX_ID < parameters.id || 1 < parameters.extendable || MAX_EXPONENT < parameters.exponent {

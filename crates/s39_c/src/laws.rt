@@ -2,24 +2,27 @@
 //!
 //! The arguments of a call, with what its buffers held before, determine its answer and what its buffers hold
 //! afterwards. A `max_exponent` of 15 or more refuses nothing. `lengths.rt` has the laws about the lengths that the header names.
-ghost use Rattle.std.specs.Prelude.{◌≡◌, ◌≢◌, ℕ, ◌-◌, ◌^◌, ◌≤◌, min, List, [], length, None, Ok};
+ghost use Rattle.std.specs.Prelude.{◌≡◌, ◌≢◌, ◌↔◌, ℕ, ◌-◌, ◌^◌, ◌≤◌, min, List, [], length, take, None, Result, Ok, Err};
+ghost use Rattle.s39_kdf.specs.declared.params.Params.{Params};
 ghost use Rattle.s39_kdf.specs.declared.secret_form.SecretForm.TheVariants.{Digits};
 ghost use Rattle.s39_words.specs.declared.ShareFields.{ShareFields};
 ghost use Rattle.s39_set.specs.Names.{Names};
 ghost use Rattle.s39_set.specs.ShareSet.{IsShareSet};
 ghost use Rattle.s39_set.specs.Listing.{AreAllQuorumsAfter};
+ghost use Rattle.s39_backup.specs.declared.plan.Members.{Members};
 ghost use Rattle.s39_drilling.specs.Drill.{IsDrillOutput};
-ghost use Rattle.s39_input.specs.Input.{whole};
-ghost use Rattle.s39_reading.specs.Encrypted.{IsDecryption};
+ghost use Rattle.s39_input.specs.declared.fault.Fault.{Fault};
+ghost use Rattle.s39_input.specs.Input.{Input, whole};
+ghost use Rattle.s39_reading.specs.Encrypted.{IsDecryption, IsEncryptedIn};
 ghost use Rattle.s39_reading.specs.Recover.{IsRecoverOutput};
 ghost use Rattle.s39_creating.specs.Reissue.{IsReissueOutput};
-ghost use Rattle.s39_creating.specs.Resplit.{IsResplitOutput};
+ghost use Rattle.s39_creating.specs.Resplit.{IsOutputFromEncrypted, IsResplitOutput};
 ghost use Rattle.s39_reading.specs.Status.{IsStatusOutput};
 ghost use Rattle.s39_c.specs.declared.answer.ShamirAnswer.{ShamirAnswer as Answer};
 ghost use Rattle.s39_c.specs.declared.encrypted.ShamirParameters.{ShamirParameters as Parameters};
 ghost use Rattle.s39_c.specs.declared.judging.ShamirJudgement.{ShamirJudgement as Judgement};
 ghost use Rattle.s39_c.specs.declared.parsing.ShamirShare.{ShamirShare as Header};
-ghost use Rattle.s39_c.specs.Answers.{number};
+ghost use Rattle.s39_c.specs.Answers.{done, number};
 ghost use Rattle.s39_c.specs.Counting.{counted_answer};
 ghost use Rattle.s39_c.specs.Creating.{Wanted, GivesBackup, GivesNumber};
 ghost use Rattle.s39_c.specs.Drilling.{GivesDrill, GivesListing};
@@ -31,20 +34,24 @@ ghost use Rattle.s39_c.specs.Parsing.{GivesShare};
 ghost use Rattle.s39_c.specs.Recovering.{GivesExpectedSecret, GivesSecret};
 ghost use Rattle.s39_c.specs.Reissuing.{GivesReissued};
 ghost use Rattle.s39_c.specs.Repairing.{GivesRepaired};
-ghost use Rattle.s39_c.specs.Resplitting.{GivesSplit};
+ghost use Rattle.s39_c.specs.Resplitting.{GivesFromEncrypted, GivesSplit};
 ghost use Rattle.s39_c.specs.Status.{GivesStatus};
 ghost use Rattle.s39_c.specs.Words.{GivesWords};
 
-use s39_backup::laws::one_plan_reading;
-use s39_creating::laws::{one_create_output, one_reissue_output, one_resplit_output};
+use s39_backup::laws::{every_quorum_has_an_outcome, one_plan_reading, outcomes_in_range};
+use s39_backup::resplit_laws::resplits_split_encrypted_secrets;
+use s39_creating::laws::{
+    one_create_output, one_output_from_encrypted, one_reissue_output, one_resplit_output,
+};
 use s39_drilling::laws::one_listing_in_a_slice;
-use s39_input::laws::one_checked_set;
+use s39_input::laws::{accepted_inputs_are_share_sets, one_checked_set};
+use s39_kdf::laws::encryption_keeps_length_and_bytes;
 use s39_reading::laws::{
     one_decryption, one_encrypted_secret, one_exponent, one_recover_output,
     shares_have_the_exponent,
 };
 use s39_repair::laws::one_answer;
-use s39_set::laws::{quorums_are_counted, written_forms};
+use s39_set::laws::{one_first_quorum, one_lack, quorums_are_counted, written_forms};
 use s39_words::laws::one_printed_form;
 
 /// A line determines the fields, the buffer of the value and the answer of `shamir_parse`.
@@ -173,6 +180,48 @@ pub fn one_split()
 {
     one_plan_reading();
     one_resplit_output();
+}
+
+/// Parameters, an encrypted secret, the text of a plan and random bytes determine the buffer of mnemonics and the answer of
+/// `shamir_create_from_encrypted`.
+pub fn one_backup_from_encrypted()
+    ensures { (parameters : Parameters) (encrypted random plan old new other : List ℕ)
+        (answer another : Answer)
+        → GivesFromEncrypted parameters encrypted random plan old new answer
+        → GivesFromEncrypted parameters encrypted random plan old other another
+        → (new ≡ other) × (answer ≡ another) }
+{
+    one_plan_reading();
+    one_output_from_encrypted();
+}
+
+/// A split anew is a composition: what `shamir_resplit` gives of lines is what `shamir_create_from_encrypted` gives of the encrypted
+/// secret that `shamir_encrypted` gives of them, with its parameters. If there is none, the split is refused for the same cause.
+pub fn resplits_are_compositions()
+    ensures outputs { (threshold : ℕ) (groups : List Members) (random : List ℕ) (input : Input)
+        (encrypted : Params × List ℕ) (text : List ℕ) (answer : Result (Unit {0}) Fault)
+        → IsEncryptedIn input (Ok encrypted)
+        → IsResplitOutput threshold groups random input text answer
+        ↔ IsOutputFromEncrypted threshold groups random encrypted text answer }
+    ensures refusals { (threshold : ℕ) (groups : List Members) (random : List ℕ) (input : Input)
+        (fault : Fault) (text : List ℕ) (answer : Result (Unit {0}) Fault)
+        → IsEncryptedIn input (Err fault)
+        → IsResplitOutput threshold groups random input text answer
+        → (text ≡ []) × (answer ≡ Err fault) }
+    ensures calls { (lines : List ℕ) (before after : Parameters) (buffer filled : List ℕ) (n : ℕ)
+        (plan random old new : List ℕ) (answer : Answer)
+        → GivesEncrypted lines before after buffer filled (done n)
+        → GivesSplit (λ threshold groups. IsResplitOutput threshold groups random (whole lines))
+        plan old new answer
+        ↔ GivesFromEncrypted after (take n filled) random plan old new answer }
+{
+    resplits_split_encrypted_secrets();
+    one_first_quorum();
+    one_lack();
+    accepted_inputs_are_share_sets();
+    every_quorum_has_an_outcome();
+    outcomes_in_range();
+    encryption_keeps_length_and_bytes();
 }
 
 /// Lines determine the buffer and the answer of `shamir_status`.

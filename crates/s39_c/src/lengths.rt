@@ -12,6 +12,7 @@ ghost use Rattle.s39_creating.specs.Lengths.{longest_backup};
 ghost use Rattle.s39_reading.specs.Lengths.{longest_status};
 ghost use Rattle.s39_creating.specs.Reissue.{IsReissueOutput};
 ghost use Rattle.s39_creating.specs.Resplit.{IsResplitOutput};
+ghost use Rattle.s39_c.specs.declared.encrypted.ShamirParameters.{ShamirParameters as Parameters};
 ghost use Rattle.s39_reading.specs.Status.{IsStatusOutput};
 ghost use Rattle.s39_c.specs.declared.lengths.TheConstants.{NAMES_BYTES_MAX, LISTING_BYTES_ENOUGH, MNEMONICS_BYTES_MAX, STATUS_BYTES_MAX, FINGERPRINT_BYTES_MAX, WORDS_BYTES_MAX, REPAIRED_BYTES_MAX, TEXT_BYTES_MAX};
 ghost use Rattle.s39_c.specs.Answers.{done, too_short};
@@ -22,13 +23,15 @@ ghost use Rattle.s39_c.specs.Fingerprinting.{GivesFingerprint};
 ghost use Rattle.s39_c.specs.declared.judging.ShamirJudgement.{ShamirJudgement as Judgement};
 ghost use Rattle.s39_c.specs.Judging.{GivesJudgement};
 ghost use Rattle.s39_c.specs.Reissuing.{GivesReissued};
-ghost use Rattle.s39_c.specs.Resplitting.{GivesSplit};
+ghost use Rattle.s39_c.specs.Resplitting.{GivesFromEncrypted, GivesSplit};
 ghost use Rattle.s39_c.specs.Repairing.{longest_repaired, GivesRepaired};
 ghost use Rattle.s39_c.specs.Status.{GivesStatus};
 ghost use Rattle.s39_c.specs.Telling.{longest_text, GivesText};
 ghost use Rattle.s39_c.specs.Words.{longest_words, words_text, GivesWords};
 
-use s39_creating::laws::{backups_are_short, reissues_are_short, resplits_are_short};
+use s39_creating::laws::{
+    backups_are_short, backups_from_encrypted_are_short, reissues_are_short, resplits_are_short,
+};
 use s39_drilling::laws::first_lines_are_short;
 use s39_input::laws::{judged_sets_have_their_shares, names_are_short};
 use s39_reading::laws::{statuses_are_short, statuses_of_sets_are_short};
@@ -143,6 +146,15 @@ pub fn splits_fit()
         → length old < MNEMONICS_BYTES_MAX }
 {
     resplits_are_short();
+}
+
+/// If a creation from an encrypted secret refuses a buffer as too short, the buffer is shorter than `MNEMONICS_BYTES_MAX`.
+pub fn backups_from_encrypted_fit()
+    ensures { (parameters : Parameters) (encrypted random plan old new : List ℕ) (needed : ℕ)
+        → GivesFromEncrypted parameters encrypted random plan old new (too_short needed)
+        → length old < MNEMONICS_BYTES_MAX }
+{
+    backups_from_encrypted_are_short();
 }
 
 /// If a buffer is refused as too short for words, it is shorter than `WORDS_BYTES_MAX`. The list of

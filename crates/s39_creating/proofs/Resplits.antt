@@ -1,3 +1,4 @@
--- The command `resplit`.
+-- The command `resplit`, and what is written of an encrypted secret.
 pub mod Outputs
+pub mod FromEncrypted
 pub mod OfBackups

@@ -1,16 +1,17 @@
--- The output of `resplit`.
+-- The output of `resplit`, and the mnemonics of a new backup of an encrypted secret.
 use Rattle.std.specs.Prelude.{◌≡◌, ◌≢◌, ℕ, List, [], length, All, true, false, Result, Ok, Err}
+use Rattle.s39_kdf.specs.declared.params.Params.{Params}
 use Rattle.s39_words.specs.declared.ShareFields.{ShareFields}
 use Rattle.s39_set.specs.Lack.{IsLack}
 use Rattle.s39_backup.specs.declared.plan.Members.{Members}
 use Rattle.s39_backup.specs.Created.{Asked, asked_for, needed_by}
-use Rattle.s39_backup.specs.Resplit.{gives_identifier, IsResplit}
+use Rattle.s39_backup.specs.Resplit.{gives_identifier, IsCreationFromEncrypted, IsResplit}
 use Rattle.s39_input.specs.declared.fault.Refusal.{Refusal}
-use Rattle.s39_input.specs.declared.fault.Refusal.TheVariants.{Lack, NotExtendable, RandomLength, SameIdentifier}
+use Rattle.s39_input.specs.declared.fault.Refusal.TheVariants.{Lack, SecretLength, NotExtendable, RandomLength, SameIdentifier}
 use Rattle.s39_input.specs.declared.fault.Fault.{Fault}
 use Rattle.s39_input.specs.Input.{Input, whole}
 use Rattle.s39_input.specs.Fault.{fault_of, fault_of_stop, fault_of_resplit}
-use Rattle.s39_input.specs.Accepted.{IsReadAs}
+use Rattle.s39_input.specs.Accepted.{IsReadAs, IsMeasured}
 use Rattle.s39_input.specs.Create.{IsCreateOutput}
 use Rattle.s39_input.specs.OfBackup.{HoldsMnemonicsOf}
 use Rattle.s39_input.specs.Steps.{Then}
@@ -31,6 +32,21 @@ IsSplitFrom group_threshold groups random input =
 abbrev pub IsResplitOutput : ℕ → List Members → List ℕ → Input → List ℕ → Result (Unit {0}) Fault → Type 0
 IsResplitOutput group_threshold groups random input text answer =
     (result : Result (List ShareFields) Fault) × IsSplitFrom group_threshold groups random input result × AreWritten result text answer
+
+-- ---- an encrypted secret
+
+-- The shares of a new backup of an encrypted secret with its parameters, which the plan and the random bytes give; or the fault.
+-- The number of its bytes is judged first.
+abbrev pub AreFromEncrypted : ℕ → List Members → List ℕ → Params × List ℕ → Result (List ShareFields) Fault → Type 0
+AreFromEncrypted group_threshold groups random encrypted =
+    Then (IsMeasured encrypted.1) (λ bad. Err (fault_of (SecretLength bad))) (λ _.
+    Then (IsCreationFromEncrypted encrypted.0 group_threshold groups random encrypted.1) (λ error. Err (fault_of_resplit error))
+    (λ shares result. result ≡ Ok shares))
+
+-- this text has the mnemonics of these shares, and this is the answer
+abbrev pub IsOutputFromEncrypted : ℕ → List Members → List ℕ → Params × List ℕ → List ℕ → Result (Unit {0}) Fault → Type 0
+IsOutputFromEncrypted group_threshold groups random encrypted text answer =
+    (result : Result (List ShareFields) Fault) × AreFromEncrypted group_threshold groups random encrypted result × AreWritten result text answer
 
 -- ---- mnemonics of a created backup
 

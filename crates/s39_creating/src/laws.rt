@@ -25,8 +25,9 @@ ghost use Rattle.s39_input.specs.Slices.{Puts};
 pub use crate::length_laws::{backups_are_short, each_mnemonic_is_a_line, reissues_are_short};
 pub use crate::reissue_laws::{created_backups_reissue, one_reissue_output};
 pub use crate::resplit_laws::{
-    created_backups_are_split_anew, one_resplit_output, resplit_writes_what_create_writes,
-    resplits_are_short,
+    backups_from_encrypted_are_short, created_backups_are_split_anew,
+    encrypted_secrets_give_what_create_writes, one_output_from_encrypted, one_resplit_output,
+    resplit_writes_what_create_writes, resplits_are_short,
 };
 pub use crate::round_trips::{
     every_backup_is_written, one_output_of_a_backup, written_mnemonics_reissue,

@@ -1,9 +1,9 @@
 //! The commands of the program `shamir` that write mnemonics, over readers and writers: `run_create`,
 //! `run_reissue` and `run_resplit`. `create_lines`, `reissue_lines` and `resplit_lines` do the same for bytes and lines in
-//! memory.
+//! memory, and `lines_from_encrypted` for an encrypted secret.
 //!
-//! The examples use `Counting` of `s39_input`, `Options` and `Plan` of `s39_backup`, and `parse_names` of `s39_set` too.
-//! In them `rt` is the runtime, or a reference to it.
+//! The examples use `Counting` of `s39_input`, `Options` and `Plan` of `s39_backup`, `Params` of `s39_kdf`, and `parse_names` of
+//! `s39_set` too. In them `rt` is the runtime, or a reference to it.
 #![tactic(auto)]
 
 mod creating;
@@ -17,4 +17,4 @@ mod round_trips;
 
 pub use creating::{create_lines, run_create};
 pub use reissuing::{reissue_lines, run_reissue};
-pub use resplitting::{resplit_lines, run_resplit};
+pub use resplitting::{lines_from_encrypted, resplit_lines, run_resplit};

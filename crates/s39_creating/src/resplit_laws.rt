@@ -1,6 +1,9 @@
-//! What `resplit` writes: facts about the definitions. Each is the contract of a function that does nothing.
+//! What `resplit` writes, and what is written of an encrypted secret: facts about the definitions. Each is the contract of a
+//! function that does nothing.
 ghost use Rattle.std.specs.Prelude.{◌≡◌, ◌≤◌, ℕ, List, All, Result, Ok, length};
+ghost use Rattle.s39_kdf.specs.declared.params.Params.{Params};
 ghost use Rattle.s39_kdf.specs.Bytes.{AreBytes};
+ghost use Rattle.s39_kdf.specs.Cipher.{IsEncryption};
 ghost use Rattle.s39_kdf.specs.Limits.{IsPrintable};
 ghost use Rattle.s39_words.specs.declared.ShareFields.{ShareFields};
 ghost use Rattle.s39_set.specs.Names.{Names};
@@ -10,23 +13,27 @@ ghost use Rattle.s39_backup.specs.declared.options.Options.{Options};
 ghost use Rattle.s39_backup.specs.Plan.{IsPlan};
 ghost use Rattle.s39_backup.specs.Created.{asked_for};
 ghost use Rattle.s39_backup.specs.Outcome.{IsOutcome};
+ghost use Rattle.s39_backup.specs.Resplit.{options_of};
 ghost use Rattle.s39_input.specs.declared.fault.Fault.{Fault};
 ghost use Rattle.s39_input.specs.Input.{Input, whole};
 ghost use Rattle.s39_input.specs.Accepted.{IsReadAs};
 ghost use Rattle.s39_input.specs.Create.{IsCreateOutput};
 ghost use Rattle.s39_creating.specs.Lengths.{longest_backup};
-ghost use Rattle.s39_creating.specs.Resplit.{IsResplitOutput, ResplitsCreated};
+ghost use Rattle.s39_creating.specs.Resplit.{IsOutputFromEncrypted, IsResplitOutput, ResplitsCreated};
 
 use crate::length_laws::backups_are_short;
 use s39_backup::laws::{
     created_shares_are_shares, every_quorum_has_an_outcome, every_quorum_recovers,
 };
-use s39_backup::resplit_laws::{one_resplit, resplits_are_created_backups};
+use s39_backup::resplit_laws::{
+    encrypted_secrets_are_split_as_created, one_creation_from_encrypted, one_resplit,
+    resplits_are_created_backups,
+};
 use s39_input::laws::{
     accepted_inputs_are_share_sets, every_input_is_read, mnemonics_are_read_as_their_shares,
     one_set,
 };
-use s39_kdf::laws::encryption_keeps_length_and_bytes;
+use s39_kdf::laws::{encryption_keeps_length_and_bytes, one_encryption};
 use s39_set::laws::quorums_are_exact;
 use s39_words::laws::{every_share_has_a_printed_form, one_printed_form};
 
@@ -100,5 +107,54 @@ pub fn resplits_are_short()
     accepted_inputs_are_share_sets();
     every_quorum_has_an_outcome();
     resplits_are_created_backups();
+    backups_are_short();
+}
+
+/// An encrypted secret has exactly one output for a plan and random bytes: one text, and one answer.
+pub fn one_output_from_encrypted()
+    ensures once { (group_threshold : ℕ) (groups : List Members) (random : List ℕ)
+        (encrypted : Params × List ℕ) (text other : List ℕ) (answer another : Result (Unit {0}) Fault)
+        → IsOutputFromEncrypted group_threshold groups random encrypted text answer
+        → IsOutputFromEncrypted group_threshold groups random encrypted other another
+        → (text ≡ other) × (answer ≡ another) }
+    ensures exists { (group_threshold : ℕ) (groups : List Members) (random : List ℕ)
+        (encrypted : Params × List ℕ) → IsPlan group_threshold groups
+        → AreBytes encrypted.1 → AreBytes random
+        → (text : List ℕ) × (answer : Result (Unit {0}) Fault)
+        × IsOutputFromEncrypted group_threshold groups random encrypted text answer }
+{
+    one_creation_from_encrypted();
+    encrypted_secrets_are_split_as_created();
+    one_encryption();
+    encryption_keeps_length_and_bytes();
+    created_shares_are_shares();
+    one_printed_form();
+    every_share_has_a_printed_form();
+}
+
+/// What is written of an encrypted secret is what `create` writes by this plan, for these random bytes, from the secret that a
+/// printable passphrase decrypts, with the exponent and the flag of the parameters.
+pub fn encrypted_secrets_give_what_create_writes()
+    ensures { (group_threshold : ℕ) (groups : List Members) (random : List ℕ)
+        (encrypted : Params × List ℕ) (text passphrase secret : List ℕ)
+        → IsOutputFromEncrypted group_threshold groups random encrypted text (Ok tt)
+        → All IsPrintable passphrase → IsEncryption secret passphrase encrypted.0 encrypted.1
+        → IsCreateOutput
+        (asked_for secret passphrase group_threshold groups (options_of encrypted.0))
+        (whole random) text (Ok tt) }
+{
+    encrypted_secrets_are_split_as_created();
+    encryption_keeps_length_and_bytes();
+}
+
+/// The mnemonics that are written of an encrypted secret take at most 253,440 bytes, including the line feeds.
+pub fn backups_from_encrypted_are_short()
+    ensures { (group_threshold : ℕ) (groups : List Members) (random : List ℕ)
+        (encrypted : Params × List ℕ) (text : List ℕ)
+        → IsOutputFromEncrypted group_threshold groups random encrypted text (Ok tt)
+        → length text ≤ longest_backup }
+{
+    one_encryption();
+    encrypted_secrets_give_what_create_writes();
     backups_are_short();
 }

@@ -1,16 +1,18 @@
-//! The command `resplit`: mnemonics of a new backup, in which the encrypted secret of another is split anew.
+//! The command `resplit`: mnemonics of a new backup, in which the encrypted secret of another is split anew. And the same for an
+//! encrypted secret that the caller has.
 ghost use Rattle.std.specs.Prelude.{◌≡◌, ◌≢◌, ◌<◌, IfErr};
 ghost use Rattle.s39_input.specs.Input.{whole};
 ghost use Rattle.s39_input.specs.Runs.{Runs};
 ghost use Rattle.s39_input.specs.Slices.{Puts};
-ghost use Rattle.s39_creating.specs.Resplit.{IsResplitOutput, IsSplitFrom, IsSplitOf, ResplitsCreated};
+ghost use Rattle.s39_creating.specs.Resplit.{AreFromEncrypted, IsOutputFromEncrypted, IsResplitOutput, IsSplitFrom, IsSplitOf, ResplitsCreated};
 
 use crate::creating::{put_answer, write_mnemonics};
 use crate::resplit_laws::created_backups_are_split_anew;
-use s39_backup::{Created, Plan, resplit};
+use s39_backup::{Created, Plan, create_from_encrypted, resplit};
 use s39_input::{
     Counting, DeviceFailure, Fault, Refusal, Unwritten, WrittenLines, read_set, set_in,
 };
+use s39_kdf::{Params, check_secret};
 use s39_set::ShareSet;
 use std::io::{Read, Write};
 
@@ -158,5 +160,63 @@ fn split_of(plan: &Plan, set: &ShareSet, random: &[u8]) -> Result<Created, Fault
 {
     let mut created = Created::new();
     resplit(plan, set, random, &mut created)?;
+    Ok(created)
+}
+
+/// Creates a backup of the encrypted secret of an extendable backup, and puts its mnemonics at the front of `text`, by group,
+/// then member, each followed by a line feed. It returns their length in bytes, and their number. The bytes of `text` after
+/// them are unchanged. It takes no passphrase, and every passphrase gives the secret that it decrypts of the encrypted one
+/// (`s39_backup::create_from_encrypted`).
+///
+/// `params` are the parameters by which the secret is encrypted. The new backup has their extendable flag and their iteration
+/// exponent. It takes exactly as many random bytes as `Plan::random_needed` says, of which the first two give its identifier.
+///
+/// The first error that applies is returned, and then `text` is unchanged:
+///
+/// - `SecretLength` if the encrypted secret has an odd number of bytes, fewer than 16, or more than 128;
+/// - `NotExtendable` if the backup isn't extendable;
+/// - `RandomLength` if there are more or fewer random bytes than needed, with that number;
+/// - `SameIdentifier` if the first two random bytes give the identifier that the backup has;
+/// - `TooShort`, with the number of bytes needed, if the text doesn't fit.
+///
+/// ```rust
+/// let plan = Plan::parse("1of1")?;
+/// let params = Params {
+///     id: 7945,
+///     extendable: true,
+///     exponent: 2,
+/// };
+/// let encrypted = b"\x14\xd7\x86\xbd\xb0\x0a\x6f\xef\x14\x16\x3f\x4e\xc9\x9b\xf2\x60";
+/// let mut text = [0; 200];
+/// let put = lines_from_encrypted(&plan, params, encrypted, b"\x5a\x17", &mut text)?;
+/// assert_eq!(rt; put.lines, 1);
+/// assert!(rt; text.starts_with(b"race retailer academic academic aircraft "));
+/// ```
+pub fn lines_from_encrypted(
+    plan: &Plan,
+    params: Params,
+    encrypted: &[u8],
+    random: &[u8],
+    text: &mut [u8],
+) -> Result<WrittenLines, Unwritten>
+    ensures { Puts (IsOutputFromEncrypted plan.now.group_threshold plan.now.groups.items random.now
+        (params, encrypted.now)) text.old text.new result }
+{
+    put_answer(&from_encrypted(plan, params, encrypted, random), text)
+}
+
+/// The shares of a new backup of an encrypted secret.
+fn from_encrypted(
+    plan: &Plan,
+    params: Params,
+    encrypted: &[u8],
+    random: &[u8],
+) -> Result<Created, Fault>
+    ensures { AreFromEncrypted plan.now.group_threshold plan.now.groups.items random.now
+        (params, encrypted.now) result }
+{
+    let bytes = check_secret(encrypted)?;
+    let mut created = Created::new();
+    create_from_encrypted(plan, params, &bytes, random, &mut created)?;
     Ok(created)
 }

@@ -1,4 +1,5 @@
 pub mod Steps
+pub mod Measures
 pub mod Taking
 pub mod Sets
 pub mod Texts

@@ -1,10 +1,11 @@
--- The set of the shares that an input holds, or why it is refused.
-use Rattle.std.specs.Prelude.{◌≡◌, ℕ, List, [], ◌∷◌, map, filter_map, All, Contains, Option, Some, None, Result, Ok, Err}
+-- The set of the shares that an input holds, or why it is refused; and how a passphrase and an encrypted secret are judged.
+use Rattle.std.specs.Prelude.{◌≡◌, ℕ, List, [], ◌∷◌, length, map, filter_map, All, Contains, Option, Some, None, Result, Ok, Err}
 use Rattle.std.specs.declared.cmp.Ordering.{Ordering}
 use Rattle.std.specs.declared.cmp.Ordering.TheVariants.{Less, Equal, Greater}
 use Rattle.s39_lists.specs.Each.{and_then}
 use Rattle.s39_kdf.specs.declared.limits.BadPassphrase.{BadPassphrase}
-use Rattle.s39_kdf.specs.Limits.{IsPrintable, IsFirstUnprintable}
+use Rattle.s39_kdf.specs.declared.limits.BadSecretLength.{BadSecretLength}
+use Rattle.s39_kdf.specs.Limits.{IsPrintable, IsFirstUnprintable, IsSecretLength}
 use Rattle.s39_words.specs.declared.ShareFields.{ShareFields}
 use Rattle.s39_set.specs.Names.{IsAscending, name_cmp}
 use Rattle.s39_set.specs.ShareSet.{IsShareSet, name_of, refusal_of}
@@ -72,6 +73,11 @@ shares_in lines = filter_map (λ line. held_share (share_in line)) lines
 abbrev pub IsJudged : List ℕ → Result (Unit {0}) BadPassphrase → Type 0
 IsJudged passphrase (Ok _) = All IsPrintable passphrase
 IsJudged passphrase (Err bad) = IsFirstUnprintable passphrase bad.position
+
+-- the bytes are as many as those of a secret, or refused for their number
+abbrev pub IsMeasured : List ℕ → Result (Unit {0}) BadSecretLength → Type 0
+IsMeasured bytes (Ok _) = IsSecretLength (length bytes)
+IsMeasured bytes (Err bad) = (¬ IsSecretLength (length bytes)) × (bad.bytes ≡ length bytes)
 
 -- The passphrase is judged first, and then the lines of the input: the set of their shares, or the fault.
 abbrev pub IsCheckedSet : List ℕ → Input → Result (List ShareFields) Fault → Type 0

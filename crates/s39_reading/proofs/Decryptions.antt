@@ -1,7 +1,6 @@
 -- A recovery is the decryption of an encrypted secret. Each of these two steps has one result.
-use Rattle.std.proofs.Common.{◌≡◌, ◌⊎◌, ℕ, ◌%◌, List, [], length, refl, sym, ap, ◌∙◌, subst, inl, inr}
-use Rattle.std.proofs.Common.{None, Option, Result, Ok, Err, arith}
-use Rattle.std.proofs.lemmas.Bool.{cases_lt}
+use Rattle.std.proofs.Common.{◌≡◌, ◌⊎◌, ℕ, List, [], length, refl, sym, ap, ◌∙◌, subst, inl, inr}
+use Rattle.std.proofs.Common.{None, Option, Result, Ok, Err}
 use Rattle.std.specs.Result.{IfOk}
 use Rattle.s39_kdf.specs.declared.noted.NotedFingerprint.{NotedFingerprint}
 use Rattle.s39_kdf.specs.declared.params.Params.{Params}
@@ -27,12 +26,13 @@ use Rattle.s39_input.specs.declared.fault.Fault.{Fault}
 use Rattle.s39_input.specs.Input.{Input}
 use Rattle.s39_input.specs.Fault.{fault_of, fault_of_stop}
 use Rattle.s39_input.specs.Steps.{Then, gives, refuses, nothing_for}
-use Rattle.s39_input.specs.Accepted.{IsReadAs, IsJudged}
+use Rattle.s39_input.specs.Accepted.{IsReadAs, IsJudged, IsMeasured}
 use Rattle.s39_input.proofs.Steps.{AtMostOne, AtLeastOne, then_once, then_some}
+use Rattle.s39_input.proofs.Measures.{measured_once, some_measure}
 use Rattle.s39_input.proofs.Sets.OneSet.{InputsAreReadOnce, AcceptedAreShareSets}
 use Rattle.s39_reading.proofs.Runs.Recovering.{least_once, least_or_lack}
 use Rattle.s39_reading.specs.Recover.{as_expected, secret_line, IsLeastOrLack, IsRecovered, IsRecoverOutput}
-use Rattle.s39_reading.specs.Encrypted.{IsEncryptedOf, IsEncryptedIn, IsDecrypted, IsMeasured, IsDecryption}
+use Rattle.s39_reading.specs.Encrypted.{IsEncryptedOf, IsEncryptedIn, IsDecrypted, IsDecryption}
 
 abbrev Found : Type 0
 Found = Result (Params × List ℕ) Fault
@@ -225,19 +225,6 @@ module _ (quorum_or_lack : (set : List ShareFields) → IsShareSet set
 
 -- ---- a decryption
 
-length_or_not : (n : ℕ) → IsSecretLength n ⊎ ¬ IsSecretLength n
-length_or_not n =
-    elim (cases_lt 0 (n % 2)) [
-      | inl odd ↦ inr (λ is. let even = is.0 in omega arith)
-      | inr none ↦ elim (cases_lt n 16) [
-        | inl short ↦ inr (λ is. let long = is.1 in omega arith)
-        | inr long ↦ elim (cases_lt 128 n) [
-          | inl more ↦ inr (λ is. let fits = is.2 in omega arith)
-          | inr fits ↦ (let even : n % 2 ≡ 0 = omega arith in inl (even, long, fits))
-        ]
-      ]
-    ]
-
 module _ (one_unprintable : PassphrasesHaveOneFirstUnprintable) (none_unprintable : PrintablePassphrasesHaveNone)
     (printable_or_not : PassphrasesArePrintableOrNot) (passphrase : List ℕ) where
   judged_once : AtMostOne (IsJudged passphrase)
@@ -254,19 +241,6 @@ module _ (one_unprintable : PassphrasesHaveOneFirstUnprintable) (none_unprintabl
         | inr (position, first) ↦ (Err (record { position = position }), first)
       ]
 
-  measured_once : (bytes : List ℕ) → AtMostOne (IsMeasured bytes)
-  measured_once bytes (Ok _) (Ok _) p q = refl
-  measured_once bytes (Ok _) (Err bad) p q = absurd (q.0 p)
-  measured_once bytes (Err bad) (Ok _) p q = absurd (p.0 q)
-  measured_once bytes (Err bad) (Err other) p q = ap (λ (n : ℕ). Err (record { bytes = n })) (p.1 ∙ sym q.1)
-
-  measured : (bytes : List ℕ) → AtLeastOne (IsMeasured bytes)
-  measured bytes =
-      elim (length_or_not (length bytes)) [
-        | inl long ↦ (Ok tt, long)
-        | inr not ↦ (Err (record { bytes = length bytes }), (not, refl))
-      ]
-
   pub decryption_once : EncryptsOneSecret → (expected : Option NotedFingerprint) (encrypted : Params × List ℕ)
       → AtMostOne (IsDecryption expected passphrase encrypted)
   decryption_once encrypts_once expected encrypted =
@@ -278,6 +252,6 @@ module _ (one_unprintable : PassphrasesHaveOneFirstUnprintable) (none_unprintabl
       → AtLeastOne (IsDecryption expected passphrase encrypted)
   some_decryption texts expected encrypted =
       then_some (IsJudged passphrase) _ _ judged (λ _ _.
-      then_some (IsMeasured encrypted.1) _ _ (measured encrypted.1) (λ _ long.
+      then_some (IsMeasured encrypted.1) _ _ (some_measure encrypted.1) (λ _ long.
       let (secret, encrypts, _) = texts passphrase encrypted.0 encrypted.1 long.0 in
       (as_expected expected secret, (secret, encrypts, refl))))

@@ -1,11 +1,9 @@
 -- Encrypted secrets, and what decrypts them (SLIP-0039, "Encryption of the master secret"). A pair of parameters and bytes stands
 -- for an encrypted secret of a backup with these parameters.
-use Rattle.std.specs.Prelude.{◌≡◌, ℕ, List, length, Option, Result, Ok, Err}
-use Rattle.s39_kdf.specs.declared.limits.BadSecretLength.{BadSecretLength}
+use Rattle.std.specs.Prelude.{◌≡◌, ℕ, List, Option, Result, Ok, Err}
 use Rattle.s39_kdf.specs.declared.noted.NotedFingerprint.{NotedFingerprint}
 use Rattle.s39_kdf.specs.declared.params.Params.{Params}
 use Rattle.s39_kdf.specs.Cipher.{IsEncryption}
-use Rattle.s39_kdf.specs.Limits.{IsSecretLength}
 use Rattle.s39_words.specs.declared.ShareFields.{ShareFields}
 use Rattle.s39_backup.specs.Combination.{combination_of}
 use Rattle.s39_backup.specs.Outcome.{AreParams}
@@ -13,7 +11,7 @@ use Rattle.s39_input.specs.declared.fault.Refusal.TheVariants.{Lack, DigestMisma
 use Rattle.s39_input.specs.declared.fault.Fault.{Fault}
 use Rattle.s39_input.specs.Input.{Input}
 use Rattle.s39_input.specs.Fault.{fault_of, fault_of_stop}
-use Rattle.s39_input.specs.Accepted.{IsReadAs, IsJudged}
+use Rattle.s39_input.specs.Accepted.{IsReadAs, IsJudged, IsMeasured}
 use Rattle.s39_input.specs.Steps.{Then}
 use Rattle.s39_reading.specs.Recover.{IsLeastOrLack, as_expected}
 
@@ -33,11 +31,6 @@ IsEncryptedIn input = Then (IsReadAs input) (λ stop. Err (fault_of_stop stop)) 
 abbrev pub IsDecrypted : Option NotedFingerprint → List ℕ → Params × List ℕ → Result (List ℕ) Fault → Type 0
 IsDecrypted expected passphrase encrypted result =
     (secret : List ℕ) × IsEncryption secret passphrase encrypted.0 encrypted.1 × (result ≡ as_expected expected secret)
-
--- the bytes are as many as those of a secret, or refused for their number
-abbrev pub IsMeasured : List ℕ → Result (Unit {0}) BadSecretLength → Type 0
-IsMeasured bytes (Ok _) = IsSecretLength (length bytes)
-IsMeasured bytes (Err bad) = (¬ IsSecretLength (length bytes)) × (bad.bytes ≡ length bytes)
 
 -- The passphrase is judged first, then the number of the encrypted secret's bytes, and at last the secret.
 abbrev pub IsDecryption : Option NotedFingerprint → List ℕ → Params × List ℕ → Result (List ℕ) Fault → Type 0

@@ -2,9 +2,11 @@
 //! the standard in Python.
 use s39_backup::{Options, Plan};
 use s39_creating::{
-    create_lines, reissue_lines, resplit_lines, run_create, run_reissue, run_resplit,
+    create_lines, lines_from_encrypted, reissue_lines, resplit_lines, run_create, run_reissue,
+    run_resplit,
 };
 use s39_input::Counting;
+use s39_kdf::Params;
 use s39_set::parse_names;
 use std::alloc::AllocGlobal;
 use std::process::Abort;
@@ -14,7 +16,8 @@ use std::test::Fail;
 fn examples(rt: HostRuntime) -> Result<(), Fail> {
     creations(&rt)?;
     reissues(&rt)?;
-    splits(&rt)
+    splits(&rt)?;
+    splits_encrypted(&rt)
 }
 
 fn creations(rt: &(impl Abort + AllocGlobal)) -> Result<(), Fail> {
@@ -91,5 +94,20 @@ fn splits(rt: &(impl Abort + AllocGlobal)) -> Result<(), Fail> {
     let put = resplit_lines(&plan, lines, b"\x12\x34", &mut text)?;
     assert_eq!(rt; put.lines, 1);
     assert!(rt; text.starts_with(b"cleanup pecan academic academic broken "));
+    Ok(())
+}
+
+fn splits_encrypted(rt: &impl Abort) -> Result<(), Fail> {
+    let plan = Plan::parse("1of1")?;
+    let params = Params {
+        id: 7945,
+        extendable: true,
+        exponent: 2,
+    };
+    let encrypted = b"\x14\xd7\x86\xbd\xb0\x0a\x6f\xef\x14\x16\x3f\x4e\xc9\x9b\xf2\x60";
+    let mut text = [0; 200];
+    let put = lines_from_encrypted(&plan, params, encrypted, b"\x5a\x17", &mut text)?;
+    assert_eq!(rt; put.lines, 1);
+    assert!(rt; text.starts_with(b"race retailer academic academic aircraft "));
     Ok(())
 }

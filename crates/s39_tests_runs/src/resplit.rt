@@ -1,7 +1,9 @@
-//! Tests of `run_resplit` and `resplit_lines`. A plain reading of the standard in Python computed the mnemonics.
+//! Tests of `run_resplit`, `resplit_lines` and `lines_from_encrypted`. A plain reading of the standard in Python computed the mnemonics.
 use s39_backup::Plan;
-use s39_creating::{resplit_lines, run_resplit};
+use s39_creating::{lines_from_encrypted, resplit_lines, run_resplit};
 use s39_input::{Counting, Unwritten};
+use s39_kdf::Params;
+use s39_reading::encrypted_in;
 use std::test::Fail;
 
 /// Two mnemonics of an extendable backup by the plan `2of3`, with the exponent 1, and a comment.
@@ -106,6 +108,58 @@ fn refused_in_order(rt: HostRuntime) -> Result<(), Fail> {
             Err(Unwritten::Refused(fault)) => {
                 let cause = fault.refusal.cause();
                 assert_eq!(rt; (cause.code, cause.first, fault.line), (code, first, line));
+            }
+            _ => assert!(rt; false),
+        }
+        assert_eq!(rt; text, [7; 20]);
+    }
+    Ok(())
+}
+
+// In two steps, the new mnemonics are the same.
+#[test]
+fn new_mnemonics_in_two_steps(rt: HostRuntime) -> Result<(), Fail> {
+    let plan = Plan::parse(PLAN)?;
+    let encrypted = encrypted_in(OLD)?;
+    let (params, bytes) = (encrypted.params, encrypted.bytes.as_slice());
+    let mut text = [0; 800];
+    let put = lines_from_encrypted(&plan, params, bytes, RANDOM, &mut text)?;
+    assert_eq!(rt; (put.written, put.lines), (NEW.len(), 5));
+    assert!(rt; text.starts_with(NEW));
+
+    let mut text = [7; 100];
+    match lines_from_encrypted(&plan, params, bytes, RANDOM, &mut text) {
+        Err(Unwritten::TooShort(short)) => {
+            assert_eq!(rt; short.needed, NEW.len());
+        }
+        _ => assert!(rt; false),
+    }
+    assert_eq!(rt; text, [7; 100]);
+    Ok(())
+}
+
+// The number of bytes is judged first, whatever the flag and the random bytes are.
+#[test]
+fn encrypted_refused_in_order(rt: HostRuntime) -> Result<(), Fail> {
+    let rows: [(bool, &[u8], &[u8], u8, u64); 5] = [
+        (false, &[9; 17], b"", 42, 17),
+        (true, &[9; 14], b"\x16\x20", 42, 14),
+        (false, &[9; 16], b"", 67, 0),
+        (true, &[9; 16], b"\x16\x20\x00", 43, 2),
+        (true, &[9; 16], b"\x96\x20", 68, 0),
+    ];
+    let plan = Plan::parse("1of1")?;
+    for (extendable, encrypted, random, code, first) in rows {
+        let params = Params {
+            id: 0x1620,
+            extendable,
+            exponent: 0,
+        };
+        let mut text = [7; 20];
+        match lines_from_encrypted(&plan, params, encrypted, random, &mut text) {
+            Err(Unwritten::Refused(fault)) => {
+                let cause = fault.refusal.cause();
+                assert_eq!(rt; (cause.code, cause.first, fault.line), (code, first, None));
             }
             _ => assert!(rt; false),
         }

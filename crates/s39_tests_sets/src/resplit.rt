@@ -1,6 +1,9 @@
-//! Tests of `s39_backup`: encrypted secrets that are split anew. A plain reading of the standard in Python computed the mnemonics, of
+//! Tests of `s39_backup`: encrypted secrets that are split. A plain reading of the standard in Python computed the mnemonics, of
 //! backups that it created and of new ones, and the secrets that both recover with each passphrase.
-use s39_backup::{Created, Mismatch, Plan, ResplitError, recover_by, resplit};
+use s39_backup::{
+    Created, Mismatch, Plan, ResplitError, create_from_encrypted, recover_by, resplit,
+};
+use s39_kdf::{Params, check_secret};
 use s39_set::{SetLack, ShareSet, parse_quorum};
 use s39_words::{parse, print};
 use std::process::Abort;
@@ -197,6 +200,119 @@ fn refused_in_order(rt: HostRuntime) -> Result<(), Fail> {
     Ok(())
 }
 
+/// An encrypted secret with its parameters, a plan, random bytes and the mnemonics of the new backup.
+type FromEncrypted = (
+    &'static [u8],
+    Params,
+    &'static str,
+    &'static [u8],
+    &'static [&'static [u8]],
+);
+
+/// The encrypted secret of the first row, with the passphrase `larch`.
+const ENCRYPTED: &[u8] = b"\x46\x55\xb0\xab\x9e\xe6\x0b\xe2\x90\x63\xec\x1b\xb8\xe8\x03\x91";
+
+#[test]
+fn from_encrypted(rt: HostRuntime) -> Result<(), Fail> {
+    let rows: [FromEncrypted; 2] = [
+        (
+            ENCRYPTED,
+            Params {
+                id: 21001,
+                extendable: true,
+                exponent: 1,
+            },
+            "2of3",
+            b"\xa5\x8a\x72\xac\x83\x15\x7a\xb4\x41\xde\xac\x37\xbc\xa9",
+            &[
+                b"estimate fawn academic acid crisis herd indicate promise legal standard chubby educate venture unkind acne object thumb retailer inmate infant",
+                b"estimate fawn academic agency alcohol tofu video midst moisture game wits ultimate brave crazy fatigue general criminal bucket forget pancake",
+                b"estimate fawn academic always diet glasses inmate says graduate sweater veteran replace peaceful ladybug party skin reject impulse dream animal",
+            ],
+        ),
+        (
+            b"\xea\xef\x65\xf5\xfe\xb3\x7f\xb0\xd2\x8a\x4e\x80\x89\x0c\x03\x79\xa5\x92\x63\x8d\xde\x3a\x77\xe3",
+            Params {
+                id: 402,
+                extendable: true,
+                exponent: 0,
+            },
+            "2/1of1,2of2",
+            b"\x60\x32\xbc\xb7\x67\x21\x7f\xba\x15\xcc\xbf\x9b\xb5\x79\x30\x24\x36\x71\x71\xf0\xee\x2d\xa7\x90\xb0\x4c\x95\x1a\x3d\xa3\x5f\x0e\xc9\xa4\x6d\xfc\x1f\x19\xcf\x17\x86\xce",
+            &[
+                b"roster moment acrobat easy acquire jerky symbolic evidence penalty makeup veteran wits decision uncover hush python treat timely iris coal lilac hour says hesitate ordinary dive march",
+                b"roster moment beard echo acquire impulse bundle phrase pharmacy slice scholar visual silent lizard salt surface grownup inmate epidemic ceiling tricycle explain epidemic switch flip erode garden",
+                b"roster moment beard email acne provide rebound provide tracks blind retreat emission smug venture else aviation valuable acid render mother manager party fortune hush typical rebuild remind",
+            ],
+        ),
+    ];
+    let mut created = Created::new();
+    for (encrypted, old, plan, random, mnemonics) in rows {
+        let bytes = check_secret(encrypted)?;
+        create_from_encrypted(&Plan::parse(plan)?, old, &bytes, random, &mut created)?;
+        assert_eq!(rt; created.shares().len(), mnemonics.len());
+        for (share, mnemonic) in created.shares().iter().zip(mnemonics) {
+            assert_eq!(rt; print(share).as_slice(), *mnemonic);
+        }
+    }
+    Ok(())
+}
+
+// The new shares recover the secret that the passphrase decrypts.
+#[test]
+fn the_secret_that_is_encrypted(rt: HostRuntime) -> Result<(), Fail> {
+    let old = Params {
+        id: 21001,
+        extendable: true,
+        exponent: 1,
+    };
+    let plan = Plan::parse("2of2")?;
+    let random = b"\x11\x02\x03\x04\x05\x06\x07\x08\x09\x0a\x0b\x0c\x0d\x0e";
+    let mut created = Created::new();
+    create_from_encrypted(&plan, old, &check_secret(ENCRYPTED)?, random, &mut created)?;
+    let mut new = ShareSet::new();
+    for share in created.shares() {
+        new.add(parse(&print(share))?)?;
+    }
+    let recovered = recover_by(&new, &parse_quorum(b"0.0+0.1")?, b"larch")?;
+    let secret = *b"\x04\xb8\x5e\xc5\xa6\x30\x9c\x20\x53\x09\x43\xf1\x66\xbd\xa9\xca";
+    assert_eq!(rt; recovered.as_slice(), secret.as_slice());
+    Ok(())
+}
+
+// If two causes apply, the earlier is told, and the shares stay.
+#[test]
+fn encrypted_refused_in_order(rt: HostRuntime) -> Result<(), Fail> {
+    let rows: [(bool, &str, &[u8], ResplitError); 5] = [
+        (false, "1of1", b"\x16\x20\x00", ResplitError::NotExtendable),
+        (false, "1of1", b"\x16\x20", ResplitError::NotExtendable),
+        (
+            true,
+            "2of2",
+            b"\x16\x20",
+            ResplitError::BadRandomLength { needed: 14 },
+        ),
+        (true, "1of1", b"\x16\x20", ResplitError::SameIdentifier),
+        (true, "1of1", b"\x96\x20", ResplitError::SameIdentifier),
+    ];
+    let mut created = Created::new();
+    let plan = Plan::parse(THREE_OF_FOUR.plan)?;
+    resplit(&plan, &set_of(&[LONG])?, THREE_OF_FOUR.random, &mut created)?;
+    let encrypted = check_secret(ENCRYPTED)?;
+    for (extendable, plan, random, error) in rows {
+        let old = Params {
+            id: 0x1620,
+            extendable,
+            exponent: 0,
+        };
+        let plan = Plan::parse(plan)?;
+        let refused = create_from_encrypted(&plan, old, &encrypted, random, &mut created);
+        assert_eq!(rt; refused, Err(error));
+        assert_eq!(rt; created.shares().len(), 4);
+    }
+    Ok(())
+}
+
 #[test]
 fn causes(rt: HostRuntime) {
     for (error, code, first) in [
@@ -213,7 +329,8 @@ fn causes(rt: HostRuntime) {
 
 #[test]
 fn examples(rt: HostRuntime) -> Result<(), Fail> {
-    splits(&rt)
+    splits(&rt)?;
+    splits_encrypted(&rt)
 }
 
 fn splits(rt: &impl Abort) -> Result<(), Fail> {
@@ -232,6 +349,23 @@ fn splits(rt: &impl Abort) -> Result<(), Fail> {
     assert_eq!(rt; created.shares().len(), 1);
     assert!(rt;
         print(&created.shares()[0]).starts_with(b"cleanup pecan academic academic broken ")
+    );
+    Ok(())
+}
+
+fn splits_encrypted(rt: &impl Abort) -> Result<(), Fail> {
+    let encrypted =
+        check_secret(b"\x14\xd7\x86\xbd\xb0\x0a\x6f\xef\x14\x16\x3f\x4e\xc9\x9b\xf2\x60")?;
+    let old = Params {
+        id: 7945,
+        extendable: true,
+        exponent: 2,
+    };
+    let plan = Plan::parse("1of1")?;
+    let mut created = Created::new();
+    create_from_encrypted(&plan, old, &encrypted, b"\x5a\x17", &mut created)?;
+    assert!(rt;
+        print(&created.shares()[0]).starts_with(b"race retailer academic academic aircraft ")
     );
     Ok(())
 }

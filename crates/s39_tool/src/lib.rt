@@ -4,7 +4,7 @@
 
 pub use s39_backup::{
     CreateError, Created, Members, Memo, Mismatch, Options, Plan, PlanError, RecoverError,
-    ResplitError, create, recover_by, refit, resplit,
+    ResplitError, create, create_from_encrypted, recover_by, refit, resplit,
 };
 pub use s39_creating::{run_create, run_reissue, run_resplit};
 pub use s39_drilling::{Done, Unwatched, Watch, run_drill};

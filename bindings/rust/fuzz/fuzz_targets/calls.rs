@@ -2,13 +2,13 @@
 //! that ends with a NUL, such as a plan, names or a passphrase, and the lines. So inputs are those of the target in C.
 #![no_main]
 use libfuzzer_sys::fuzz_target;
-use shamir::{Drill, Error, Plan, RecoverOptions};
+use shamir::{Drill, EncryptedSecret, Error, Plan, RecoverOptions, Secret};
 
 /// Makes a call, and drops what it gives.
 fn call(which: u8, text: &[u8], lines: &[u8]) -> Result<(), Error> {
     let options = RecoverOptions::new().passphrase(text).max_exponent(0);
     let plan = || String::from_utf8_lossy(text).parse::<Plan>();
-    match which % 13 {
+    match which % 14 {
         0 => shamir::parse(lines).map(drop),
         1 => shamir::recover(lines, &options).map(drop),
         2 | 3 => shamir::encrypted(lines).map(drop),
@@ -18,6 +18,11 @@ fn call(which: u8, text: &[u8], lines: &[u8]) -> Result<(), Error> {
         8 => shamir::repair(lines).map(drop),
         5 | 9 | 10 => shamir::status(lines).map(drop),
         11 => shamir::judge(lines, text).map(drop),
+        12 => {
+            let value = Secret::new(&lines[..lines.len().min(16)])?;
+            let secret = EncryptedSecret { id: 1, extendable: true, exponent: 0, value };
+            shamir::create_from_encrypted(&plan()?, &secret, &lines[..lines.len().min(14)]).map(drop)
+        }
         _ => Ok(drop(shamir::words(text))),
     }
 }

@@ -20,7 +20,7 @@ use Rattle.s39_backup.specs.Created.{Asked, asked_for, IsCreation}
 use Rattle.s39_backup.specs.GroupShares.{IsExactQuorum}
 use Rattle.s39_backup.specs.Outcome.{IsOutcome, Recovers}
 use Rattle.s39_backup.specs.Plan.{IsPlan}
-use Rattle.s39_backup.specs.Resplit.{judged_split, AreSplitAnew, IsResplit}
+use Rattle.s39_backup.specs.Resplit.{AreSplitAnew, IsResplit}
 use Rattle.s39_backup.proofs.Levels.{encrypted_like}
 use Rattle.s39_input.specs.declared.fault.LineRefusal.{LineRefusal}
 use Rattle.s39_input.specs.declared.fault.Stop.{Stop}
@@ -112,8 +112,7 @@ recovered : (set : List ShareFields) (group_threshold : ℕ) (groups : List Memb
     → ((outcome : Result (List ℕ) Mismatch) × IsOutcome set split.names [] outcome) → (secret : List ℕ) × Recovers set split.names [] secret
 recovered set group_threshold groups random shares split (Ok secret, is) = (secret, is)
 recovered set group_threshold groups random shares split (Err mismatch, is) =
-    absurd (let bad : Err (unsplit.DigestMismatch mismatch) ≡ Ok split.encrypted =
-    subst (λ (c : Result (List ℕ) Mismatch). judged_split split.old group_threshold groups random c ≡ Ok split.encrypted) is split.judged in cc)
+    absurd (let bad : Err mismatch ≡ Ok split.encrypted = sym is ∙ split.combined in cc)
 
 -- the creation with the empty passphrase that a split is
 pub record IsCreated (group_threshold : ℕ) (groups : List Members) (random : List ℕ) (shares : List ShareFields) : Type 0 where

@@ -1,6 +1,7 @@
 use Rattle.std.proofs.Common.{None}
 use Rattle.std.proofs.lemmas.List.Elements.{All-contains_itself}
-use Rattle.s39_backup.proofs.Resplits.{options_of, have_options, is_created, secret_bytes, count_is, least_recovers, least_secret}
+use Rattle.s39_backup.specs.Resplit.{options_of}
+use Rattle.s39_backup.proofs.Resplits.{have_options, is_created, secret_bytes, count_is, least_recovers, least_secret}
 use Rattle.s39_backup.proofs.resplit_laws.resplits_are_created_backups.Goals as goal
 
 pub returns-clause-recovered : goal.returns-clause-recovered
