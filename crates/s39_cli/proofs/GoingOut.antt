@@ -20,7 +20,8 @@ going_out_goes_on a b c text rest count out more = record {
   parts = out.parts ∙ ap (λ tail. out.written ++ tail) (sym (take-append-drop count rest)) ∙ sym (append_assoc out.written (take count rest) (drop count rest));
 }
 
-begun : (a b c : Option (List ℕ)) (written rest : List ℕ) → Appends a b written → Keeps b c → HoldsBeginning a c (written ++ rest)
+-- a beginning went out, and then the writer kept its bytes
+pub begun : (a b c : Option (List ℕ)) (written rest : List ℕ) → Appends a b written → Keeps b c → HoldsBeginning a c (written ++ rest)
 begun None b c written rest more kept = (rest, tt)
 begun (Some x) None c written rest more kept = absurd more
 begun (Some x) (Some y) None written rest more kept = absurd kept

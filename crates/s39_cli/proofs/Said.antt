@@ -29,9 +29,9 @@ use Rattle.s39_drilling.specs.Drill.{WritesDrillOf}
 use Rattle.s39_cli.specs.Ending.{Delivers, HasStatus}
 use Rattle.s39_cli.specs.Outcome.{HasBadPlan, IsReady, judged, status_of, status_of_refusal, where_done, without_mismatches}
 use Rattle.s39_cli.specs.Said.{HasFormlessPlan, IsSaidBy, IsSaidOfJob, IsSaidUnbegun, IsSilentAtNone}
-use Rattle.s39_cli.specs.Said.{IsWithin, OnStatus, Says, SaysBeside, SaysFault, SaysMessage, SaysOnceRead, longest_message, memory_line}
+use Rattle.s39_cli.specs.Said.{IsWithin, OnStatus, Says, SaysBeside, SaysFault, SaysMessage, SaysOnceRead, longest_message}
 use Rattle.s39_cli.specs.Unready.{IsUnready}
-use Rattle.s39_cli.specs.Said.{bare_line, input_lines, late_lines, is_terminal, line_if, types_mnemonics, types_passphrase, typing_line, work_input_lines, work_late_lines}
+use Rattle.s39_cli.specs.Said.{bare_line, input_lines, late_lines, is_terminal, line_if, types_passphrase, typing_line, work_input_lines, work_late_lines}
 use Rattle.s39_cli.specs.Work.{HasBadPassphrase, IsWorkOf, IsWorkOutput}
 use Rattle.s39_cli.proofs.Works.{ready_of_work}
 use Rattle.s39_cli.proofs.Formless.{formed_by_cursor, formed_by_fingerprint, formed_by_names, formed_if_other, formed_if_ready, formless_if_bad}
@@ -96,14 +96,10 @@ lines_alike (job.Reissue plan names) s p w is input = ap (λ (x : Work). work_in
 lines_alike job.Repair s p w is input = ap (λ (x : Work). work_input_lines x input) is
 lines_alike (job.Resplit plan file) s p w is input = ap (λ (x : Work). work_input_lines x input) is.1
 
--- only at a terminal something is typed
+-- only at a terminal a passphrase is typed
 pub typed_passphrase : (from : Source) (file : Option (Bor Text)) → types_passphrase from file ≡ true → is_terminal from ≡ true
 typed_passphrase read_at.Terminal file types = refl
 typed_passphrase read_at.Elsewhere file types = types
-
-pub typed_mnemonics : (from : Source) (j : Job) → types_mnemonics from j ≡ true → is_terminal from ≡ true
-typed_mnemonics read_at.Terminal j types = refl
-typed_mnemonics read_at.Elsewhere j types = types
 
 -- ---- texts one after another
 
@@ -198,19 +194,6 @@ module _ {E : Type 0} (contents : E → Option (List ℕ)) where
             let done = delivers.done (λ three. omega (arith, none, three)) in
             (whole done.0, done.2.0, done.2.1)
 
-    -- no memory is left after the first lines
-    pub said_for_memory : {W : Type 0} (j : Job) (attended types tells asks : Bool) (w : Work) (reader : R) (ended : Ended R W) (old mid new : Messages E)
-        → (asks ≡ types) ⊎ ((asks ≡ false) × HasBadPassphrase w)
-        → Says contents old mid (line_if asks typing_line) → Says contents mid new memory_line → ended ≡ NoMemory
-        → IsSaidOfJob remaining contents j attended types tells reader old new ended
-    said_for_memory j attended types tells asks w reader ended old mid new asked first second same =
-        subst (IsSaidOfJob remaining contents j attended types tells reader old new) (sym same)
-        (asks, within asked, says_both old mid new (line_if asks typing_line) memory_line first second)
-      where
-        within : (asks ≡ types) ⊎ ((asks ≡ false) × HasBadPassphrase w) → IsWithin asks types
-        within (inl yes_is) comes = sym yes_is ∙ comes
-        within (inr bad) comes = absurd (true≢false (sym comes ∙ bad.0))
-
     -- a job that isn't begun
     refused_unbegun : {W : Type 0} (j : Job) (attended types tells : Bool) (reader : R) (ended : Ended R W) (old new : Messages E)
         → (HasFormlessPlan j → ⊥) → OnStatus ended (λ status. (status ≡ 1) × SaysMessage contents old new)
@@ -249,7 +232,7 @@ module _ {E : Type 0} (contents : E → Option (List ℕ)) where
         (old new : Messages E) → IsUnready j secret u → IsSaidUnbegun contents attended u old new ended
         → IsSaidOfJob remaining contents j attended types tells reader old new ended
     said_unbegun j secret attended types tells unready.Memory reader ended old new bad (none, says) =
-        subst (IsSaidOfJob remaining contents j attended types tells reader old new) (sym none) (false, (λ comes. absurd (true≢false (sym comes))), says)
+        subst (IsSaidOfJob remaining contents j attended types tells reader old new) (sym none) says
     said_unbegun j secret attended types tells unready.Secret reader NoMemory old new bad says = absurd says
     said_unbegun j secret attended types tells unready.Secret reader (With status read_to written_to) old new bad (is, says) = record {
       done = λ none. absurd (omega (arith, none, is));

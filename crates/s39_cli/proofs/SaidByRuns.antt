@@ -1,6 +1,6 @@
 -- What is said beside the answer of a run.
-use Rattle.std.proofs.Common.{◌≡◌, ◌∙◌, ℕ, Bool, arith, inl, inr, true, false, List, [], Option, Some, None, Result, Ok, Err, ap, refl, subst, sym}
-use Rattle.std.proofs.KnownBytes.{Appends-nil, Appends-trans}
+use Rattle.std.proofs.Common.{◌≡◌, ◌∙◌, ◌++◌, ℕ, Bool, arith, inl, inr, true, false, List, [], Option, Some, None, Result, Ok, Err, ap, append-nil, refl, subst, sym}
+use Rattle.std.proofs.KnownBytes.{Appends-nil}
 use Rattle.clap.specs.Words.{Text}
 use Rattle.s39_words.specs.declared.ShareFields.{ShareFields}
 use Rattle.s39_input.specs.declared.fault.DeviceFailure.TheVariants.{Write}
@@ -14,15 +14,30 @@ use Rattle.s39_input.specs.Runs.{OfInput}
 use Rattle.s39_input.specs.Steps.{gives, refuses}
 use Rattle.s39_cli.specs.declared.messages.Messages.{Messages}
 use Rattle.s39_cli.specs.declared.work.Work.{Work}
-use Rattle.s39_cli.specs.Ending.{HandsOn}
+use Rattle.s39_cli.specs.declared.work.Work.TheVariants as work
+use Rattle.s39_cli.specs.Ending.{IsFlushed}
 use Rattle.s39_cli.specs.Outcome.{judged}
-use Rattle.s39_cli.specs.Said.{IsAllOf, Says, SaysBeside, SaysOnceRead, bare_line, line_if, read_lines, set_lines, work_input_lines, work_late_lines}
+use Rattle.s39_cli.specs.Said.{IsAllOf, Says, SaysBeside, SaysOnceRead, bare_line, early_lines, line_if, read_lines, set_lines, tells_last, work_late_lines}
 use Rattle.s39_cli.proofs.Deliveries.{of_all}
+use Rattle.s39_cli.proofs.Said.{says_both}
 
--- a text is left out or not
-line_if_nothing : (holds : Bool) → line_if holds [] ≡ []
-line_if_nothing true = refl
-line_if_nothing false = refl
+-- nothing is before a text, whether it is left out or not
+nothing_before : (holds : Bool) (text : Text) → text ≡ line_if holds [] ++ text
+nothing_before true text = refl
+nothing_before false text = refl
+
+-- what a work says itself, and then what is left to its caller, is what is said once its input is read
+both_lines : (w : Work) (attended tells : Bool) (input : Input)
+    → early_lines w attended tells input ++ line_if (tells_last w tells) bare_line ≡ work_late_lines w attended tells input
+both_lines work.Show attended tells input = nothing_before attended (line_if tells bare_line)
+both_lines (work.Create creation) attended tells input = nothing_before attended (line_if tells bare_line)
+both_lines (work.Recover passphrase form expected) attended tells input =
+    append-nil (line_if tells bare_line) ∙ nothing_before attended (line_if tells bare_line)
+both_lines (work.Drill drill) attended tells input = refl
+both_lines work.Status attended tells input = nothing_before attended (line_if tells bare_line)
+both_lines (work.Reissue reissue) attended tells input = nothing_before attended (line_if tells bare_line)
+both_lines work.Repair attended tells input = nothing_before attended (line_if tells bare_line)
+both_lines (work.Resplit resplit) attended tells input = nothing_before attended (line_if tells bare_line)
 
 -- a reader has some input
 pub some_input : (told : Option (List ℕ)) → (input : Input) × IsAllOf told input
@@ -47,14 +62,12 @@ module _ {R E : Type 0} (remaining : R → Option (List ℕ)) (contents : E → 
       )
   unsaid lines (Err fault) old none = let (input, all) = some_input (remaining reader) in (input, all, (λ _. refl))
 
-  -- the same of a work that says nothing of its input
-  pub unsaid_work : {T : Type 0} (w v : Work) (attended : Bool) (answer : Result T Fault) (old : Messages E) → w ≡ v
-      → ((input : Input) → work_input_lines v input ≡ [])
-      → SaysOnceRead remaining contents (λ input. line_if attended (work_input_lines w input)) reader answer old old
-  unsaid_work w v attended answer old same none =
-      unsaid (λ input. line_if attended (work_input_lines w input)) answer old
-      (λ input. ap (λ (x : Work). line_if attended (work_input_lines x input)) same ∙ ap (λ (text : Text). line_if attended text) (none input)
-      ∙ line_if_nothing attended)
+  -- the same of a work that says nothing itself
+  pub unsaid_work : {T : Type 0} (w v : Work) (attended tells : Bool) (answer : Result T Fault) (old : Messages E) → w ≡ v
+      → ((input : Input) → early_lines v attended tells input ≡ [])
+      → SaysOnceRead remaining contents (early_lines w attended tells) reader answer old old
+  unsaid_work w v attended tells answer old same none =
+      unsaid (early_lines w attended tells) answer old (λ input. ap (λ (x : Work). early_lines x attended tells input) same ∙ none input)
 
   -- beside a refusal nothing is said
   pub unsaid_refusal : (T : Type 0) (lines : Input → Text) (fault : Fault) (old : Messages E)
@@ -75,32 +88,27 @@ module _ {R E : Type 0} (remaining : R → Option (List ℕ)) (contents : E → 
   said_judged is_well lines (Err fault) given old new same says =
       subst (λ (answer : Result Bool Fault). SaysOnceRead remaining contents lines reader answer old new) (sym same) says
 
-  -- that no passphrase was used is said behind what is said of the input
+  -- that no passphrase was used is said behind what a work says itself
   pub said_both : (w : Work) (attended tells : Bool) (answer : Result Bool Fault) (old mid new : Messages E)
-      → SaysOnceRead remaining contents (λ input. line_if attended (work_input_lines w input)) reader answer old mid
-      → SaysBeside contents (line_if tells bare_line) answer mid new
+      → SaysOnceRead remaining contents (early_lines w attended tells) reader answer old mid
+      → SaysBeside contents (line_if (tells_last w tells) bare_line) answer mid new
       → SaysOnceRead remaining contents (work_late_lines w attended tells) reader answer old new
   said_both w attended tells (Ok is_well) old mid new (input, all, first) then = (
     input,
     all,
-    (λ is.
-        let more = then is in
-        let before = first more.0 in (
-          before.0,
-          Appends-trans (contents old.device) (contents mid.device) (contents new.device) (line_if attended (work_input_lines w input))
-              (line_if tells bare_line) before.1 more.1,
-        )),
+    subst (Says contents old new) (both_lines w attended tells input)
+        (says_both contents old mid new (early_lines w attended tells input) (line_if (tells_last w tells) bare_line) first then),
   )
   said_both w attended tells (Err fault) old mid new (input, all, first) then = (input, all, (λ one. then one ∙ first one))
 
-  -- what is handed on to a writer leaves what is said
+  -- a flush leaves what is said
   pub said_behind : (lines : Input → Text) (held last : Option (List ℕ)) (old new : Messages E) (input : R) → reader ≡ input
-      → (answer given : Result Bool Fault) → SaysOnceRead remaining contents lines reader answer old new → HandsOn held last answer given
+      → (answer given : Result Bool Fault) → SaysOnceRead remaining contents lines reader answer old new → IsFlushed held last answer given
       → SaysOnceRead remaining contents lines input given old new
-  said_behind lines held last old new input is answer given says (inl (same, kept)) =
+  said_behind lines held last old new input is answer given says (kept, inl same) =
       subst (λ (r : R). SaysOnceRead remaining contents lines r given old new) is
       (subst (λ (a : Result Bool Fault). SaysOnceRead remaining contents lines reader a old new) (sym same) says)
-  said_behind lines held last old new input is answer given says (inr (same, lost, kept)) =
+  said_behind lines held last old new input is answer given says (kept, inr same) =
       subst (λ (r : R). SaysOnceRead remaining contents lines r given old new) is
       (subst (λ (a : Result Bool Fault). SaysOnceRead remaining contents lines reader a old new) (sym same) (unsaid_failure Bool lines old new))
 

@@ -14,10 +14,10 @@ use Rattle.s39_cli.specs.declared.runner.Ended.TheVariants.{With, NoMemory}
 use Rattle.s39_cli.specs.declared.runner.Terminals.{Terminals}
 use Rattle.s39_cli.specs.Ending.{IsTyped, OnEnd}
 use Rattle.s39_cli.specs.Said.{IsSaid, IsSaidAs, IsSaidOfCall, IsSaidOfJob, IsSaidWithoutJob}
-use Rattle.s39_cli.specs.Said.{IsWithin, OnStatus, Says, memory_line, plan_form_line}
-use Rattle.s39_cli.specs.Said.{IsNamedIn, is_attended, late_lines, is_terminal, line_if, long_line, secret_line, shown_line, tells_of_none, typed_line, types_mnemonics, types_passphrase, typing_line}
+use Rattle.s39_cli.specs.Said.{OnStatus, Says, memory_line, plan_form_line}
+use Rattle.s39_cli.specs.Said.{IsNamedIn, is_attended, late_lines, line_if, long_line, secret_line, shown_line, tells_of_none, typed_line, types_mnemonics, types_passphrase, typing_line}
 use Rattle.s39_cli.specs.Values.{TakesValues, Told}
-use Rattle.s39_cli.proofs.Said.{says_both, typed_mnemonics, typed_passphrase}
+use Rattle.s39_cli.proofs.Said.{says_both, typed_passphrase}
 
 -- ---- the program
 
@@ -36,9 +36,7 @@ module _ {R E : Type 0} (told : Told) (remaining : R → Option (List ℕ)) (con
     only_memory : (ended : Ended R W) → ended ≡ NoMemory → Says contents old new memory_line
         → IsSaid told remaining contents terminals words reader old new ended
     only_memory ended none says =
-        let never : (may : Bool) → IsWithin false may = λ may comes. absurd (true≢false (sym comes)) in
-        subst (IsSaid told remaining contents terminals words reader old new) (sym none)
-        (false, false, never (is_terminal terminals.source), never (is_terminal terminals.source), says)
+        subst (IsSaid told remaining contents terminals words reader old new) (sym none) (false, (λ comes. absurd (true≢false (sym comes))), says)
 
     -- words that give no job
     pub said_without_job : (no_job : NoJob) (ended : Ended R W) → AnswersWords no_job words
@@ -100,12 +98,10 @@ module _ {R E : Type 0} (told : Told) (remaining : R → Option (List ℕ)) (con
           → Says contents old mid (line_if shown shown_line) → IsSaidOfJob remaining contents call.job attended types tells behind mid new ended
           → IsSaid told remaining contents terminals words reader old new ended
       said_of_job attended shown types tells secret passphrase behind mid NoMemory untyped takes attended_is shown_is types_is tells_is first
-          (begun, within, says) = (
+          says = (
             shown,
-            begun,
             (λ comes. typed_passphrase terminals.source call.files.passphrase (sym shown_is ∙ comes)),
-            (λ comes. typed_mnemonics terminals.source call.job (sym types_is ∙ within comes)),
-            says_both contents old mid new (line_if shown shown_line) (line_if begun typing_line ++ memory_line) first says,
+            says_both contents old mid new (line_if shown shown_line) memory_line first says,
           )
       said_of_job attended shown types tells secret passphrase behind mid (With status read_to written_to) untyped takes attended_is shown_is types_is tells_is
           first says = by_call call found faultless status (record {

@@ -16,7 +16,7 @@ use Rattle.s39_cli.specs.declared.runner.Ended.{Ended}
 use Rattle.s39_cli.specs.declared.runner.Ended.TheVariants.{With}
 use Rattle.s39_cli.specs.declared.work.Work.{Work}
 use Rattle.s39_cli.specs.declared.work.Work.TheVariants as work
-use Rattle.s39_cli.specs.Ending.{HandsOn}
+use Rattle.s39_cli.specs.Ending.{IsFlushed}
 use Rattle.s39_cli.specs.Outcome.{judged, status_of}
 use Rattle.s39_cli.specs.Said.{IsAllOf}
 use Rattle.s39_cli.specs.Seen.{IsSeenOfJob, SeesDrill, SeesJob, SeesOnceRead, SeesSome, SeesWork}
@@ -76,14 +76,14 @@ module _ {P : Type 0} (sees : ℕ → P → P → Type 0) where
     seen_some w (Ok is_well) old new (input, all, seen) = some_of_work w input old new seen
     seen_some w (Err fault) old new seen = seen
 
-    -- what is handed on to a writer leaves what is told
+    -- a flush leaves what is told
     pub seen_behind : (w : Work) (held last : Option (List ℕ)) (old new : P) (input : R) → reader ≡ input → (answer given : Result Bool Fault)
-        → SeesOnceRead sees remaining (SeesWork sees w) reader answer old new → HandsOn held last answer given
+        → SeesOnceRead sees remaining (SeesWork sees w) reader answer old new → IsFlushed held last answer given
         → SeesOnceRead sees remaining (SeesWork sees w) input given old new
-    seen_behind w held last old new input is answer given seen (inl (same, kept)) =
+    seen_behind w held last old new input is answer given seen (kept, inl same) =
         subst (λ (r : R). SeesOnceRead sees remaining (SeesWork sees w) r given old new) is
         (subst (λ (a : Result Bool Fault). SeesOnceRead sees remaining (SeesWork sees w) reader a old new) (sym same) seen)
-    seen_behind w held last old new input is answer given seen (inr (same, lost, kept)) =
+    seen_behind w held last old new input is answer given seen (kept, inr same) =
         subst (λ (a : Result Bool Fault). SeesOnceRead sees remaining (SeesWork sees w) input a old new) (sym same) (seen_some w answer old new seen)
 
     -- an answer with exit status 0 is no fault

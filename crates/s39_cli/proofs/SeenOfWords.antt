@@ -1,5 +1,5 @@
 -- What is told how far a drill is, by the whole program.
-use Rattle.std.proofs.Common.{◌≡◌, ◌⊎◌, ◌≤◌, ⊎_elim, ℕ, List, Option, true, arith, sym, subst}
+use Rattle.std.proofs.Common.{◌≡◌, ◌⊎◌, ◌≤◌, ⊎_elim, ℕ, List, Option, true, arith}
 use Rattle.clap.specs.Words.{Text, takes}
 use Rattle.s39_input.specs.Input.{Input}
 use Rattle.s39_command.specs.declared.command.BadValues.{BadValues}
@@ -28,10 +28,6 @@ module _ {P R W : Type 0} (sees : ℕ → P → P → Type 0) (remaining : R →
   unseen_unbegun (unready.Fingerprint error) input writer (With status read_to written_to) ends = λ none. absurd (let one = ends.0 in omega (arith, one, none))
   unseen_unbegun (unready.Names error) input writer (With status read_to written_to) ends = λ none. absurd (let one = ends.0 in omega (arith, one, none))
   unseen_unbegun unready.Memory input writer (With status read_to written_to) ends = λ none. absurd (cc)
-
-  -- memory ran out
-  pub unseen_memory : (ended : Ended R W) → ended ≡ NoMemory → IsSeenOfJob sees remaining job reader old new ended
-  unseen_memory ended none = subst (IsSeenOfJob sees remaining job reader old new) (sym none) tt
 
 module _ {P R W : Type 0} (sees : ℕ → P → P → Type 0) (told : Told) (remaining : R → Option (List ℕ)) (words : List Text) (reader : R) (old new : P) where
   -- words that give no job

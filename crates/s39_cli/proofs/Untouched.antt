@@ -1,5 +1,5 @@
 -- Refusals that leave the writer as it was.
-use Rattle.std.proofs.Common.{◌≡◌, ℕ, Bool, true, false, List, Option, arith, inl, inr, refl, subst, sym, Result, Ok, Err}
+use Rattle.std.proofs.Common.{◌≡◌, ℕ, Bool, true, false, List, Option, ap, arith, inl, inr, refl, subst, sym, Result, Ok, Err}
 use Rattle.clap.specs.Words.{Text}
 use Rattle.s39_input.specs.declared.fault.Refusal.{Refusal}
 use Rattle.s39_input.specs.declared.fault.Refusal.TheVariants.{Device}
@@ -14,7 +14,7 @@ use Rattle.s39_command.proofs.OneCall.{one_call}
 use Rattle.s39_cli.specs.declared.runner.Ended.{Ended}
 use Rattle.s39_cli.specs.declared.runner.Ended.TheVariants.{With, NoMemory}
 use Rattle.s39_cli.specs.declared.work.Work.{Work}
-use Rattle.s39_cli.specs.Ending.{EndsUnread, EndsWithoutJob, OnEnd}
+use Rattle.s39_cli.specs.Ending.{EndsUnread, EndsWithoutJob, IsFlushed, OnEnd}
 use Rattle.s39_cli.specs.Outcome.{status_of, status_of_refusal}
 use Rattle.s39_cli.specs.Untouched.{IsAtItsEnd, IsUntouchedBy, IsUntouchedIfRefused, WritesAtItsEnd}
 use Rattle.s39_cli.specs.Work.{IsWorkOf}
@@ -30,6 +30,12 @@ never_two (Err fault) two = of_refusal fault.refusal two
     of_refusal : (refusal : Refusal) → status_of_refusal refusal ≡ 2 → ⊥
     of_refusal (Device failure) two = omega (arith, two)
     of_refusal _ two = omega (arith, two)
+
+-- with exit status 1, an answer is the same behind a flush
+pub same_if_one : (held last : Option (List ℕ)) (answer given : Result Bool Fault) → IsFlushed held last answer given → status_of given ≡ 1
+    → given ≡ answer
+same_if_one held last answer given (kept, inl same) one = same
+same_if_one held last answer given (kept, inr failed) one = absurd (let three : status_of given ≡ 3 = ap status_of failed in omega (arith, one, three))
 
 -- ---- jobs
 

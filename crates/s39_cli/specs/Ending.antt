@@ -149,10 +149,9 @@ module _ {R W : Type 0} (told : Told) (remaining : R → Option (List ℕ)) (con
 
 -- ---- within the program; no public contract cites this
 
--- What a buffer held at the end of a run with this answer is in the writer below it. Or a beginning is, and the writer failed.
-abbrev pub HandsOn : Option (List ℕ) → Option (List ℕ) → Result Bool Fault → Result Bool Fault → Type 0
-HandsOn held last answer given = ((given ≡ answer) × Keeps held last)
-    ⊎ ((given ≡ Err (fault_of (Device Write))) × (lost : List ℕ) × Keeps held (append_known last lost))
+-- the writer has what it held at the end of a run with this answer; the answer is the same, or that the writer failed
+abbrev pub IsFlushed : Option (List ℕ) → Option (List ℕ) → Result Bool Fault → Result Bool Fault → Type 0
+IsFlushed held last answer given = Keeps held last × ((given ≡ answer) ⊎ (given ≡ Err (fault_of (Device Write))))
 
 -- the text is written, or a beginning of it
 abbrev pub GoesOut : Option (List ℕ) → Option (List ℕ) → List ℕ → Bool → Type 0

@@ -305,11 +305,11 @@ module _ {R E : Type 0} (told : Told) (remaining : R → Option (List ℕ)) (con
         → ((bad : BadValues) × GivesBadValues words bad × Says contents old new (said_of_values (is_attended terminals) bad))
         ⊎ ((call : Call) × GivesCall words call × IsSaidOfCall terminals call reader old new status)
 
-  -- If memory runs out, that is said, after the lines that were said before.
+  -- If memory runs out, that is said, after the line about a passphrase that is typed, if that was said.
   abbrev pub IsSaid : {W : Type 0} → Terminals → List Text → R → Messages E → Messages E → Ended R W → Type 0
   IsSaid terminals words reader old new (With status read_to written_to) = IsSaidAs terminals words reader old new status
-  IsSaid terminals words reader old new NoMemory = (typed begun : Bool) × IsWithin typed (is_terminal terminals.source) × IsWithin begun (is_terminal terminals.source)
-      × Says contents old new (line_if typed shown_line ++ (line_if begun typing_line ++ memory_line))
+  IsSaid terminals words reader old new NoMemory =
+      (typed : Bool) × IsWithin typed (is_terminal terminals.source) × Says contents old new (line_if typed shown_line ++ memory_line)
 
 -- ---- within the program; no public contract cites this
 
@@ -358,6 +358,17 @@ abbrev pub work_input_lines : Work → Input → Text
 work_input_lines (work.Drill drill) input = read_lines (read_as input)
 work_input_lines _ input = []
 
+-- what a work says itself once its input is read: of the set that it drills; or before it recovers, that no passphrase was used
+abbrev pub early_lines : Work → Bool → Bool → Input → Text
+early_lines (work.Recover passphrase form expected) attended tells_of_none input = line_if tells_of_none bare_line
+early_lines (work.Drill drill) attended tells_of_none input = line_if attended (read_lines (read_as input))
+early_lines _ attended tells_of_none input = []
+
+-- it is left to the caller of a work to tell that no passphrase was used
+abbrev pub tells_last : Work → Bool → Bool
+tells_last (work.Recover passphrase form expected) tells_of_none = false
+tells_last _ tells_of_none = tells_of_none
+
 -- what is said once the input of a work is read, as once that of its job is
 abbrev pub work_late_lines : Work → Bool → Bool → Input → Text
 work_late_lines w attended tells_of_none input = line_if attended (work_input_lines w input) ++ line_if tells_of_none bare_line
@@ -382,5 +393,4 @@ module _ {R E : Type 0} (remaining : R → Option (List ℕ)) (contents : E → 
   abbrev pub IsSaidOfJob : {W : Type 0} → Job → Bool → Bool → Bool → R → Messages E → Messages E → Ended R W → Type 0
   IsSaidOfJob job attended types_mnemonics tells_of_none reader old new (With status read_to written_to) =
       IsSaidBy job attended types_mnemonics tells_of_none reader old new status
-  IsSaidOfJob job attended types_mnemonics tells_of_none reader old new NoMemory =
-      (begun : Bool) × IsWithin begun types_mnemonics × Says contents old new (line_if begun typing_line ++ memory_line)
+  IsSaidOfJob job attended types_mnemonics tells_of_none reader old new NoMemory = Says contents old new memory_line

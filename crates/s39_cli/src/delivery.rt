@@ -1,10 +1,8 @@
 //! How the output of a command goes to its writer.
-ghost use Rattle.std.specs.Prelude.{◌≡◌, ◌<◌, IsFalse, IsTrue, IfNone, IfSome, [], Err};
-ghost use Rattle.std.specs.Io.Buffered.{writer_buffer, writer_contents, writer_inner};
-ghost use Rattle.std.specs.Io.KnownBytes.{Keeps};
+ghost use Rattle.std.specs.Prelude.{◌≡◌, ◌<◌, IsFalse, IsTrue, Err};
 ghost use Rattle.s39_input.specs.Fault.{fault_of};
 ghost use Rattle.s39_input.specs.Runs.{Runs};
-ghost use Rattle.s39_cli.specs.Ending.{Delivers, GoesOut, HandsOn, HasStatus};
+ghost use Rattle.s39_cli.specs.Ending.{Delivers, GoesOut, HasStatus, IsFlushed};
 ghost use Rattle.s39_cli.specs.Outcome.{status_of};
 ghost use Rattle.s39_cli.specs.Said.{SaysOnceRead, work_late_lines};
 ghost use Rattle.s39_cli.specs.Seen.{SeesOnceRead, SeesSome, SeesWork};
@@ -16,10 +14,8 @@ use crate::notes::Notes;
 use crate::patient::Patient;
 use crate::telling::tell_of_none;
 use crate::work::Work;
-use s39_clearing::Cleared;
 use s39_tool::{Counting, DeviceFailure, Fault, Refusal, Watch};
-use std::alloc::Global;
-use std::io::{BufWriter, Read, Write};
+use std::io::{Read, Write};
 
 /// What a command answered (whether all is well, or its fault), and its devices.
 #[derive(Drop)]
@@ -29,7 +25,8 @@ pub(crate) struct Finished<R, W> {
     pub(crate) output: W,
 }
 
-/// Runs a command, and tells a person what the notes say: of the input that it read, and that no passphrase was used.
+/// Runs a command, and tells a person what the notes say: of the input that it read, and that no passphrase was used. A recovery tells
+/// this before its secret is out, and a drill after its lines.
 fn run_told<R: Read, W: Write, E: Write, P: Watch>(
     work: &Work,
     input: &mut Counting<R>,
@@ -52,90 +49,12 @@ fn run_told<R: Read, W: Write, E: Write, P: Watch>(
     ensures seen { SeesOnceRead P.sees R.remaining (SeesWork P.sees work.now) input.old.device result
         watch.old watch.new }
 {
-    let answer = work.run(input, output, notes.is_attended, errors, watch);
-    tell_of_none(&answer, notes.tells_of_none, errors);
+    let answer = work.run(input, output, notes, errors, watch);
+    tell_of_none(&answer, work.tells_last(notes.tells_of_none), errors);
     answer
 }
 
-/// Runs a command whose output goes out as its buffer fills, and gives `None` if there is no memory for the buffer. A person is told
-/// that no passphrase was used before the rest of the buffer goes out, in which the secret of a recovery is.
-pub(crate) fn by_buffer<R: Read + Drop, W: Write + Drop, E: Write, P: Watch>(
-    alloc: Global,
-    work: &Work,
-    input: R,
-    output: W,
-    notes: Notes,
-    errors: &mut Messages<E>,
-    watch: &mut P,
-) -> Option<Finished<R, W>>
-    ensures delivers { IfSome result (λ finished.
-        Delivers R.remaining W.contents (HasStatus (IsWorkOutput work.now))
-        input output (status_of finished.answer) finished.input finished.output) }
-    // Of any devices.
-    ensures untouched { IfSome result (λ finished.
-        IsAtItsEnd work.now → status_of finished.answer ≡ 1 → finished.output ≡ output) }
-    ensures said { IfSome result (λ finished. SaysOnceRead R.remaining E.contents
-        (work_late_lines work.now notes.is_attended notes.tells_of_none) input finished.answer
-        errors.old errors.new) }
-    ensures silent { IsFalse notes.is_attended → IsFalse notes.tells_of_none → errors.new ≡ errors.old }
-    ensures unsaid { IfNone result (errors.new ≡ errors.old) }
-    ensures seen { IfSome result (λ finished. SeesOnceRead P.sees R.remaining (SeesWork P.sees work.now)
-        input finished.answer watch.old watch.new) }
-    ensures unseen { IfNone result (watch.new ≡ watch.old) }
-{
-    let Ok(buffered) = BufWriter::new(alloc, output) else {
-        return None;
-    };
-    let mut reader = Counting::new(input);
-    let mut writer = Counting::new(buffered);
-    let answer = run_told(work, &mut reader, &mut writer, notes, errors, watch);
-    let (answer, output) = handed_on(answer, writer.into_inner());
-    Some(Finished {
-        answer,
-        input: reader.into_inner(),
-        output,
-    })
-}
-
-/// Hands on what a buffer keeps after a run that gave this answer. If that fails, the answer is that the writer failed.
-fn handed_on<W: Write + Drop>(
-    answer: Result<bool, Fault>,
-    output: BufWriter<W>,
-) -> (Result<bool, Fault>, W)
-    ensures handed { HandsOn (writer_contents W.contents output) (W.contents result.1) answer result.0 }
-    ensures untouched { (fault : Fault) → answer ≡ Err fault → writer_buffer output ≡ []
-        → result.1 ≡ writer_inner output }
-{
-    let mut output = output;
-    let is_whole = hand_on(&answer, &mut output);
-    // A drop of the buffer would write again what a failed write left in it.
-    let (output, bytes) = output.into_parts();
-    let _kept = Cleared { bytes };
-    if is_whole {
-        (answer, output)
-    } else {
-        (Err(write_failed()), output)
-    }
-}
-
-/// Hands on what a buffer keeps after a run that gave this answer, and says whether all of the output has gone out then. If
-/// nothing was written before a refusal, or if a write failed, it doesn't call the writer.
-fn hand_on<W: Write + Drop>(answer: &Result<bool, Fault>, output: &mut BufWriter<W>) -> bool
-    ensures kept { Keeps (writer_contents W.contents output.old)
-        (writer_contents W.contents output.new) }
-    ensures whole { IsTrue result → writer_buffer output.new ≡ [] }
-    ensures untouched { (fault : Fault) → answer.now ≡ Err fault → writer_buffer output.old ≡ []
-        → output.new ≡ output.old }
-    ensures failed { (fault : Fault) → answer.now ≡ Err fault
-        → fault.refusal ≡ Refusal.Device DeviceFailure.Write → output.new ≡ output.old }
-{
-    if answer.is_err() && output.buffer().is_empty() {
-        return true;
-    }
-    !has_failed(answer) && output.flush().is_ok()
-}
-
-/// Runs a command whose output goes out line by line, each line in one piece.
+/// Runs a command whose output goes out line by line: each as soon as it is known, and in one piece.
 pub(crate) fn by_lines<R: Read + Drop, W: Write + Drop, E: Write, P: Watch>(
     work: &Work,
     input: R,
@@ -146,6 +65,8 @@ pub(crate) fn by_lines<R: Read + Drop, W: Write + Drop, E: Write, P: Watch>(
 ) -> Finished<R, W>
     ensures delivers { Delivers R.remaining W.contents (HasStatus (IsWorkOutput work.now))
         input output (status_of result.answer) result.input result.output }
+    // Of any devices.
+    ensures untouched { IsAtItsEnd work.now → status_of result.answer ≡ 1 → result.output ≡ output }
     ensures said { SaysOnceRead R.remaining E.contents
         (work_late_lines work.now notes.is_attended notes.tells_of_none) input result.answer
         errors.old errors.new }
@@ -164,15 +85,16 @@ pub(crate) fn by_lines<R: Read + Drop, W: Write + Drop, E: Write, P: Watch>(
     }
 }
 
-/// Flushes a writer after a run that gave this answer, unless a write failed. If that fails, the answer is that the writer
-/// failed.
+/// Flushes a writer after a run that gave this answer, unless nothing was written or a write failed. If the flush fails, the
+/// answer is that the writer failed.
 fn flushed<W: Write>(answer: Result<bool, Fault>, output: Patient<W>) -> (Result<bool, Fault>, W)
-    ensures handed { HandsOn (W.contents output.output) (W.contents result.1) answer result.0 }
+    ensures kept { IsFlushed (W.contents output.output) (W.contents result.1) answer result.0 }
+    ensures untouched { IsFalse output.is_written → result.1 ≡ output.output }
     ensures failed { (fault : Fault) → answer ≡ Err fault
         → fault.refusal ≡ Refusal.Device DeviceFailure.Write → result.1 ≡ output.output }
 {
     let mut output = output;
-    let is_whole = has_failed(&answer) || output.flush().is_ok();
+    let is_whole = !output.is_written() || has_failed(&answer) || output.flush().is_ok();
     let output = output.into_inner();
     if is_whole {
         (answer, output)

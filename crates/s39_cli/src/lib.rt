@@ -11,6 +11,7 @@ mod notes;
 mod patient;
 mod progress;
 mod random_file;
+mod recovering;
 mod runner;
 mod secret_text;
 mod telling;

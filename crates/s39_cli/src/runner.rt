@@ -9,7 +9,7 @@ ghost use Rattle.s39_cli.specs.Seen.{IsSeen, IsSeenOfJob, SeesSome};
 ghost use Rattle.s39_cli.specs.Untouched.{IsUntouchedBy, IsUntouchedIfRefused};
 ghost use Rattle.s39_cli.specs.Work.{HasBadPassphrase};
 
-use crate::delivery::{by_buffer, by_lines, show, write_failed};
+use crate::delivery::{by_lines, show, write_failed};
 use crate::messages::Messages;
 use crate::notes::{NEW_SECRET, Notes, SHOWN, TYPING, is_attended, tells_of_drawing};
 use crate::random_file::{NoRandom, random_of};
@@ -93,8 +93,8 @@ impl<R: Drop, W: Drop> Ended<R, W> {
 /// | 4 | the program is out of memory |
 ///
 /// If the words name files for values, the program reads these values first: those in files of `shelf`, and then those in the
-/// first lines of `input`. The file of random bytes is read once the plan is judged. Results and help go to `output`: the lines of `drill`, and at a terminal those of `show` and `repair`,
-/// as soon as each is known. A fault is a line on `errors`, where the text of a refused command line goes too, and what a person at a
+/// first lines of `input`. The file of random bytes is read once the plan is judged. Results and help go to `output`, each line as soon
+/// as it is known. A fault is a line on `errors`, where the text of a refused command line goes too, and what a person at a
 /// terminal is told. Each time that a drill has written the line of a quorum, `watch` is told how many it has listed. The program takes all its memory before it reads `input`. Only lines that hold values are read before that. A
 /// failing `errors` changes no status.
 pub fn program<S: Shelf, R: Read + Drop, W: Write + Drop, E: Write, P: Watch>(
@@ -147,7 +147,6 @@ pub fn program<S: Shelf, R: Read + Drop, W: Write + Drop, E: Write, P: Watch>(
         errors,
         watch,
         notes,
-        terminals.destination,
     )
 }
 
@@ -162,7 +161,6 @@ fn by_job<S: Shelf, R: Read + Drop, W: Write + Drop, E: Write, P: Watch>(
     errors: &mut Messages<E>,
     watch: &mut P,
     notes: Notes,
-    destination: Destination,
 ) -> Ended<R, W>
     requires { IsInRange job }
     ensures ends { OnEnd result (DoesDrawn (S.told shelf.now) R.remaining W.contents job.entry
@@ -176,17 +174,7 @@ fn by_job<S: Shelf, R: Read + Drop, W: Write + Drop, E: Write, P: Watch>(
     ensures listed { IsSeenOfJob P.sees R.remaining job.entry input watch.old watch.new result }
 {
     let Some((plan, name)) = random_file(&job) else {
-        return by_texts(
-            alloc,
-            job,
-            texts,
-            input,
-            output,
-            errors,
-            watch,
-            notes,
-            destination,
-        );
+        return by_texts(alloc, job, texts, input, output, errors, watch, notes);
     };
     let _judged = match Plan::parse(plan) {
         Ok(judged) => judged,
@@ -207,17 +195,7 @@ fn by_job<S: Shelf, R: Read + Drop, W: Write + Drop, E: Write, P: Watch>(
         secret: random.bytes.as_slice(),
         passphrase: texts.passphrase,
     };
-    by_texts(
-        alloc,
-        job,
-        texts,
-        input,
-        output,
-        errors,
-        watch,
-        notes,
-        destination,
-    )
+    by_texts(alloc, job, texts, input, output, errors, watch, notes)
 }
 
 /// The plan and the file of random bytes of a job that takes some from a file.
@@ -241,7 +219,6 @@ fn by_texts<R: Read + Drop, W: Write + Drop, E: Write, P: Watch>(
     errors: &mut Messages<E>,
     watch: &mut P,
     notes: Notes,
-    destination: Destination,
 ) -> Ended<R, W>
     requires { IsInRange job }
     ensures ends { OnEnd result (DoesJob R.remaining W.contents job.entry texts.entry.secret.now
@@ -259,14 +236,8 @@ fn by_texts<R: Read + Drop, W: Write + Drop, E: Write, P: Watch>(
         Err(unready) => return unbegun(unready, notes.is_attended, input, output, errors),
     };
     errors.say_if(asks(notes, &work), TYPING);
-    if work.goes_by_lines(destination) {
-        let finished = by_lines(&work, input, output, notes, errors, watch);
-        return answered(finished, errors);
-    }
-    match by_buffer(alloc, &work, input, output, notes, errors, watch) {
-        Some(finished) => answered(finished, errors),
-        None => no_memory_left(errors),
-    }
+    let finished = by_lines(&work, input, output, notes, errors, watch);
+    answered(finished, errors)
 }
 
 /// Whether mnemonics are about to be typed.

@@ -1,5 +1,5 @@
 //! Commands that are ready to run.
-ghost use Rattle.std.specs.Prelude.{◌≡◌, ◌<◌, ◌≤◌, ◌↔◌, false, IfOk, IfErr, IsFalse, IsSomeAnd, IsTrue, Err};
+ghost use Rattle.std.specs.Prelude.{◌≡◌, ◌<◌, ◌≤◌, ◌↔◌, false, IfOk, IfErr, IsFalse, IsSomeAnd, Err};
 ghost use Rattle.s39_set.specs.Status.{is_enough};
 ghost use Rattle.s39_input.specs.Runs.{Runs};
 ghost use Rattle.s39_command.specs.Command.{IsInRange, text_in};
@@ -9,7 +9,8 @@ ghost use Rattle.s39_cli.specs.Unready.{IsNoReissue, IsUnready};
 
 use crate::drilling::drill_told;
 use crate::messages::Messages;
-use crate::runner::Destination;
+use crate::notes::Notes;
+use crate::recovering::recover_told;
 use crate::secret_text::secret_of;
 use crate::values::Secrets;
 use s39_clearing::Cleared;
@@ -17,8 +18,8 @@ use s39_command::Job;
 use s39_kdf::{BadFingerprint, NotedFingerprint, check_passphrase, parse_fingerprint};
 use s39_set::{BadCursor, BadNames, Quorum, Status, parse_names, parse_quorum};
 use s39_tool::{
-    Counting, Done, Fault, Options, Plan, PlanError, SecretForm, Watch, run_create, run_recover,
-    run_reissue, run_repair, run_resplit, run_show, run_status,
+    Counting, Done, Fault, Options, Plan, PlanError, SecretForm, Watch, run_create, run_reissue,
+    run_repair, run_resplit, run_show, run_status,
 };
 use std::alloc::Global;
 use std::io::{Read, Write};
@@ -185,7 +186,7 @@ impl Reissue {
 }
 
 impl<'a> Work<'a> {
-    ghost use Rattle.s39_cli.specs.Said.{SaysOnceRead, line_if, work_input_lines};
+    ghost use Rattle.s39_cli.specs.Said.{SaysOnceRead, early_lines, tells_last};
     ghost use Rattle.s39_cli.specs.Seen.{SeesOnceRead, SeesWork};
     ghost use Rattle.s39_cli.specs.Untouched.{IsAtItsEnd};
     ghost use Rattle.s39_cli.specs.Work.{HasBadPassphrase, IsWorkOf, IsWorkOutput};
@@ -247,21 +248,6 @@ impl<'a> Work<'a> {
         }
     }
 
-    /// Whether each line of the output goes out as soon as it is known.
-    pub(crate) fn goes_by_lines(&self, destination: Destination) -> bool
-        ensures { IsTrue result → IsAtItsEnd self.now → ⊥ }
-    {
-        match self {
-            Work::Show | Work::Repair => destination == Destination::Terminal,
-            Work::Drill(_) => true,
-            Work::Create(_)
-            | Work::Recover { .. }
-            | Work::Status
-            | Work::Reissue(_)
-            | Work::Resplit(_) => false,
-        }
-    }
-
     /// Whether it begins to read: its passphrase isn't refused before that.
     pub(crate) fn begins(&self) -> bool
         ensures { result ≡ false ↔ HasBadPassphrase self.now }
@@ -273,14 +259,26 @@ impl<'a> Work<'a> {
         }
     }
 
+    /// Whether its caller tells a person after it that no passphrase was used. A recovery tells that itself, before it writes.
+    pub(crate) fn tells_last(&self, tells_of_none: bool) -> bool
+        ensures told { result ≡ tells_last self.now tells_of_none }
+        ensures untold { IsFalse tells_of_none → IsFalse result }
+    {
+        match self {
+            Work::Recover { .. } => false,
+            _ => tells_of_none,
+        }
+    }
+
     /// Runs the command, and gives whether all is well: no quorum was refused or gives another secret than the expected one,
     /// enough groups are complete, and one mnemonic fits each line, if the command looks for that. If a person looks on, a drill
-    /// tells first how much there is to do. `watch` is told how many quorums it has listed, each time that the line of one is written.
+    /// tells first how much there is to do. A recovery tells that no passphrase was used, if the notes say so, before it writes.
+    /// `watch` is told how many quorums a drill has listed, each time that the line of one is written.
     pub(crate) fn run<R: Read, W: Write, E: Write, P: Watch>(
         &self,
         input: &mut Counting<R>,
         output: &mut Counting<W>,
-        is_attended: bool,
+        notes: Notes,
         errors: &mut Messages<E>,
         watch: &mut P,
     ) -> Result<bool, Fault>
@@ -289,12 +287,12 @@ impl<'a> Work<'a> {
         ensures runs { Runs R.remaining W.contents (IsWorkOutput self.now)
             input.old input.new output.old output.new result }
         ensures said { SaysOnceRead R.remaining E.contents
-            (λ input. line_if is_attended (work_input_lines self.now input)) input.old.device result
+            (early_lines self.now notes.is_attended notes.tells_of_none) input.old.device result
             errors.old errors.new }
         // Of any devices.
         ensures untouched { IsAtItsEnd self.now → status_of result ≡ 1
             → ((fault : Fault) × (result ≡ Err fault)) × (output.new ≡ output.old) }
-        ensures silent { IsFalse is_attended → errors.new ≡ errors.old }
+        ensures silent { IsFalse notes.is_attended → IsFalse notes.tells_of_none → errors.new ≡ errors.old }
         ensures seen { SeesOnceRead P.sees R.remaining (SeesWork P.sees self.now) input.old.device result
             watch.old watch.new }
     {
@@ -312,12 +310,20 @@ impl<'a> Work<'a> {
                 passphrase,
                 form,
                 expected,
-            } => where_done(run_recover(*form, *expected, passphrase, input, output)),
+            } => where_done(recover_told(
+                *form,
+                *expected,
+                passphrase,
+                input,
+                output,
+                notes.tells_of_none,
+                errors,
+            )),
             Work::Drill(drill) => without_mismatches(drill_told(
                 drill,
                 input,
                 output,
-                is_attended,
+                notes.is_attended,
                 errors,
                 watch,
             )),

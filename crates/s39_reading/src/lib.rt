@@ -16,5 +16,5 @@ mod status;
 
 pub use encrypted::{EncryptedSecret, decrypt_secret, encrypted_in};
 pub use exponent::exponent_of;
-pub use recover::{recover_secret, recover_set, run_recover};
+pub use recover::{recover_secret, recover_set, recovered_line, run_recover};
 pub use status::{WrittenStatus, run_status, set_status, status_lines};

@@ -1,11 +1,11 @@
 //! The command `recover`: the secret of the least quorum of an input's shares.
-ghost use Rattle.std.specs.Prelude.{◌≡◌, ◌≢◌, ◌<◌, [], Ok, Err, IfOk, IfErr};
+ghost use Rattle.std.specs.Prelude.{◌≡◌, ◌≢◌, ◌+◌, ◌<◌, [], Ok, Err, IfOk, IfErr};
 ghost use Rattle.s39_kdf.specs.declared.limits.BadPassphrase.{BadPassphrase};
-ghost use Rattle.s39_input.specs.Fault.{fault_of};
+ghost use Rattle.s39_input.specs.Fault.{fault_of, read_failures, write_failures};
 ghost use Rattle.s39_input.specs.Input.{whole};
 ghost use Rattle.s39_reading.specs.Recover.{as_expected, IsRecovered, IsRecoverOutput, secret_line};
 ghost use Rattle.s39_reading.specs.Recover.{RecoversCreated};
-ghost use Rattle.s39_input.specs.Runs.{Runs};
+ghost use Rattle.s39_input.specs.Runs.{OfInput, Runs};
 
 use crate::laws::created_backups_recover;
 use s39_backup::recover_quorum;
@@ -71,10 +71,32 @@ pub fn run_recover<R: Read, W: Write>(
         → result ≡ Err (fault_of (Refusal.Passphrase bad)) → input.new ≡ input.old }
 {
     created_backups_recover();
+    let line = recovered_line(form, expected, passphrase, input)?;
+    write_text(output, line.as_slice())?;
+    Ok(())
+}
+
+/// Returns the line that `run_recover` writes for an input, or the fault for which it writes nothing. So a caller can do
+/// something before the secret is out. The caller keeps `failures()` below `u64::MAX`.
+pub fn recovered_line<R: Read>(
+    form: SecretForm,
+    expected: Option<NotedFingerprint>,
+    passphrase: &[u8],
+    input: &mut Counting<R>,
+) -> Result<Line, Fault>
+    requires { input.old.failures < u64.MAX }
+    ensures line { IfOk result (λ line. OfInput R.remaining input.old input.new
+        (λ input. IsRecoverOutput form expected passphrase.now input line.items (Ok tt))) }
+    ensures refused { IfErr result (λ fault. OfInput R.remaining input.old input.new
+        (λ input. IsRecoverOutput form expected passphrase.now input [] (Err fault))) }
+    ensures read_failures { input.new.failures ≡ input.old.failures + read_failures result }
+    ensures write_failures { write_failures result ≡ 0 }
+    ensures unread { (bad : BadPassphrase)
+        → result ≡ Err (fault_of (Refusal.Passphrase bad)) → input.new ≡ input.old }
+{
     let set = checked_set(passphrase, input)?;
     let secret = recover_set(expected, passphrase, &set)?;
-    write_text(output, secret_line(form, &secret).as_slice())?;
-    Ok(())
+    Ok(secret_line(form, &secret))
 }
 
 /// Returns the secret that the first quorum (`s39_set::first`) of the lines' shares recovers with the passphrase. It is

@@ -12,7 +12,7 @@ returns g c =
     let text = c.args.text.now in
     let out : GoesOut old now text c.write_whole.result =
     subst (λ t. GoesOut old now t c.write_whole.result) c.as_bytes.ensures.value
-    (subst (λ w. GoesOut (g.W.Write.contents w) now c.as_bytes.result.now c.write_whole.result) c.new-output.ensures c.write_whole.ensures) in
+    (subst (λ w. GoesOut (g.W.Write.contents w) now c.as_bytes.result.now c.write_whole.result) c.new-output.ensures.output c.write_whole.ensures) in
     elim c.if-write_whole.branch [
       | then-write_whole w ↦
           let wrote : c.write_whole.result ≡ true = cc in

@@ -1,39 +1,25 @@
-use Rattle.std.proofs.Common.{refl, subst}
+use Rattle.std.proofs.Common.{refl}
 use Rattle.s39_cli.specs.Outcome.{status_of}
-use Rattle.s39_cli.specs.Said.{Says, memory_line}
 use Rattle.s39_cli.proofs.Ends.{does_work}
 use Rattle.s39_cli.proofs.Untouched.{run_untouched, work_alike}
-use Rattle.s39_cli.proofs.Said.{said_by_work, said_for_memory, said_unbegun}
+use Rattle.s39_cli.proofs.Said.{said_by_work, said_unbegun}
 use Rattle.s39_cli.proofs.SeenByRuns.{seen_by_work, seen_some}
-use Rattle.s39_cli.proofs.SeenOfWords.{unseen_memory, unseen_unbegun}
+use Rattle.s39_cli.proofs.SeenOfWords.{unseen_unbegun}
 use Rattle.s39_cli.proofs.runner.by_texts.Goals as goal
 
-pub returns-then-goes_by_lines-clause-ends : goal.returns-then-goes_by_lines-clause-ends
-returns-then-goes_by_lines-clause-ends g c =
+pub returns-clause-ends : goal.returns-clause-ends
+returns-clause-ends g c =
     let run = c.by_lines-finished.result in
     does_work g.R.Read.remaining g.W.Write.contents c.args.job c.args.texts.secret.now c.args.texts.passphrase.now c.args.input
     c.args.output c.in-Ok.work (status_of run.answer) run.input run.output
     c.answered.result c.in-Ok.ensures.work c.by_lines-finished.ensures.delivers c.answered.ensures.ends
 
-pub returns-in-Some-clause-ends : goal.returns-in-Some-clause-ends
-returns-in-Some-clause-ends g c =
-    let run = c.in-Some.finished in
-    does_work g.R.Read.remaining g.W.Write.contents c.args.job c.args.texts.secret.now c.args.texts.passphrase.now c.args.input
-    c.args.output c.in-Ok.work (status_of run.answer) run.input run.output
-    c.answered-in-Some.result c.in-Ok.ensures.work c.in-Some.ensures.delivers c.answered-in-Some.ensures.ends
-
-pub returns-then-goes_by_lines-clause-untouched : goal.returns-then-goes_by_lines-clause-untouched
-returns-then-goes_by_lines-clause-untouched g c =
+pub returns-clause-untouched : goal.returns-clause-untouched
+returns-clause-untouched g c =
     let run = c.by_lines-finished.result in
     run_untouched c.args.output c.args.job run.answer run.input run.output c.answered.result c.answered.ensures.ends
-    (λ at one. absurd (c.goes_by_lines.ensures c.if-goes_by_lines.true
-    (work_alike c.args.job c.args.texts.secret.now c.args.texts.passphrase.now c.in-Ok.work c.in-Ok.ensures.work at)))
-
-pub returns-in-Some-clause-untouched : goal.returns-in-Some-clause-untouched
-returns-in-Some-clause-untouched g c =
-    let run = c.in-Some.finished in
-    run_untouched c.args.output c.args.job run.answer run.input run.output c.answered-in-Some.result c.answered-in-Some.ensures.ends
-    (λ at one. c.in-Some.ensures.untouched (work_alike c.args.job c.args.texts.secret.now c.args.texts.passphrase.now c.in-Ok.work c.in-Ok.ensures.work at) one)
+    (λ at one. c.by_lines-finished.ensures.untouched
+    (work_alike c.args.job c.args.texts.secret.now c.args.texts.passphrase.now c.in-Ok.work c.in-Ok.ensures.work at) one)
 
 pub returns-in-Err-clause-said : goal.returns-in-Err-clause-said
 returns-in-Err-clause-said g c =
@@ -41,8 +27,8 @@ returns-in-Err-clause-said g c =
     c.args.notes.tells_of_none c.in-Err.unready c.args.input c.unbegun.result c.args.errors.now c.unbegun.new.errors c.in-Err.ensures.refused
     c.unbegun.ensures.said
 
-pub returns-then-goes_by_lines-clause-said : goal.returns-then-goes_by_lines-clause-said
-returns-then-goes_by_lines-clause-said g c =
+pub returns-clause-said : goal.returns-clause-said
+returns-clause-said g c =
     let run = c.by_lines-finished.result in
     said_by_work g.E.Write.contents g.R.Read.remaining g.W.Write.contents c.args.job c.args.texts.secret.now c.args.texts.passphrase.now
     c.args.notes.is_attended c.args.notes.types_mnemonics c.args.notes.tells_of_none c.asks.result c.in-Ok.work run.answer c.args.input run.input
@@ -50,61 +36,24 @@ returns-then-goes_by_lines-clause-said g c =
     c.in-Ok.ensures.work c.asks.ensures c.by_lines-finished.ensures.delivers c.say_if.ensures.said c.by_lines-finished.ensures.said
     c.answered.ensures.said c.answered.ensures.ends
 
-pub returns-in-Some-clause-said : goal.returns-in-Some-clause-said
-returns-in-Some-clause-said g c =
-    let run = c.in-Some.finished in
-    said_by_work g.E.Write.contents g.R.Read.remaining g.W.Write.contents c.args.job c.args.texts.secret.now c.args.texts.passphrase.now
-    c.args.notes.is_attended c.args.notes.types_mnemonics c.args.notes.tells_of_none c.asks.result c.in-Ok.work run.answer c.args.input run.input
-    c.args.output run.output c.answered-in-Some.result c.args.errors.now c.say_if.new.self c.by_buffer.new.errors c.answered-in-Some.new.errors
-    c.in-Ok.ensures.work c.asks.ensures c.in-Some.ensures.delivers c.say_if.ensures.said c.in-Some.ensures.said c.answered-in-Some.ensures.said
-    c.answered-in-Some.ensures.ends
-
-pub returns-clause-said : goal.returns-clause-said
-returns-clause-said g c =
-    said_for_memory g.E.Write.contents g.R.Read.remaining c.args.job c.args.notes.is_attended c.args.notes.types_mnemonics c.args.notes.tells_of_none
-    c.asks.result c.in-Ok.work c.args.input c.no_memory_left.result c.args.errors.now c.say_if.new.self c.no_memory_left.new.errors c.asks.ensures
-    c.say_if.ensures.said
-    (subst (λ m. Says g.E.Write.contents m c.no_memory_left.new.errors memory_line) c.in-None.ensures.unsaid c.no_memory_left.ensures.said)
-    c.no_memory_left.ensures.ends
-
 -- ---- how many quorums are told of
 
 pub returns-in-Err-clause-seen : goal.returns-in-Err-clause-seen
 returns-in-Err-clause-seen g c = (0, refl)
 
-pub returns-then-goes_by_lines-clause-seen : goal.returns-then-goes_by_lines-clause-seen
-returns-then-goes_by_lines-clause-seen g c =
+pub returns-clause-seen : goal.returns-clause-seen
+returns-clause-seen g c =
     seen_some g.P.Watch.sees g.R.Read.remaining c.args.input c.in-Ok.work c.by_lines-finished.result.answer c.args.watch.now c.by_lines-finished.new.watch
     c.by_lines-finished.ensures.seen
-
-pub returns-in-Some-clause-seen : goal.returns-in-Some-clause-seen
-returns-in-Some-clause-seen g c =
-    seen_some g.P.Watch.sees g.R.Read.remaining c.args.input c.in-Ok.work c.in-Some.finished.answer c.args.watch.now c.by_buffer.new.watch
-    c.in-Some.ensures.seen
-
-pub returns-clause-seen : goal.returns-clause-seen
-returns-clause-seen g c = (0, c.in-None.ensures.unseen)
 
 pub returns-in-Err-clause-listed : goal.returns-in-Err-clause-listed
 returns-in-Err-clause-listed g c =
     unseen_unbegun g.P.Watch.sees g.R.Read.remaining c.args.job c.args.input c.args.watch.now c.args.watch.now c.in-Err.unready c.args.input c.args.output
     c.unbegun.result c.unbegun.ensures.ends
 
-pub returns-then-goes_by_lines-clause-listed : goal.returns-then-goes_by_lines-clause-listed
-returns-then-goes_by_lines-clause-listed g c =
+pub returns-clause-listed : goal.returns-clause-listed
+returns-clause-listed g c =
     let run = c.by_lines-finished.result in
     seen_by_work g.P.Watch.sees g.R.Read.remaining c.args.input c.args.job c.args.texts.secret.now c.args.texts.passphrase.now c.in-Ok.work run.answer
     run.input run.output c.answered.result c.args.watch.now c.by_lines-finished.new.watch c.in-Ok.ensures.work c.by_lines-finished.ensures.seen
     c.answered.ensures.ends
-
-pub returns-in-Some-clause-listed : goal.returns-in-Some-clause-listed
-returns-in-Some-clause-listed g c =
-    let run = c.in-Some.finished in
-    seen_by_work g.P.Watch.sees g.R.Read.remaining c.args.input c.args.job c.args.texts.secret.now c.args.texts.passphrase.now c.in-Ok.work run.answer
-    run.input run.output c.answered-in-Some.result c.args.watch.now c.by_buffer.new.watch c.in-Ok.ensures.work c.in-Some.ensures.seen
-    c.answered-in-Some.ensures.ends
-
-pub returns-clause-listed : goal.returns-clause-listed
-returns-clause-listed g c =
-    unseen_memory g.P.Watch.sees g.R.Read.remaining c.args.job c.args.input c.args.watch.now c.by_buffer.new.watch c.no_memory_left.result
-    c.no_memory_left.ensures.ends

@@ -12,7 +12,7 @@ use Rattle.s39_creating.specs.Reissue.{IsReissueOutput}
 use Rattle.s39_creating.specs.Resplit.{IsResplitOutput}
 use Rattle.s39_reading.specs.Status.{IsStatusOutput}
 use Rattle.s39_cli.specs.Outcome.{where_done, without_mismatches}
-use Rattle.s39_cli.specs.Said.{SaysOnceRead, line_if, read_lines, work_input_lines}
+use Rattle.s39_cli.specs.Said.{SaysOnceRead, bare_line, early_lines, line_if, read_lines}
 use Rattle.s39_cli.specs.Work.{IsWorkOutput}
 use Rattle.s39_cli.proofs.SaidByRuns.{said_judged, unsaid_work}
 use Rattle.s39_cli.specs.Seen.{SeesDrill, SeesOnceRead, SeesWork}
@@ -53,12 +53,12 @@ returns-in-Recover-clause-runs g c =
     let passphrase = c.in-Recover.passphrase in
     let form = c.in-Recover.form in
     let expected = c.in-Recover.expected in
-    subst (λ (w : Work). Runs g.R.Read.remaining g.W.Write.contents (IsWorkOutput w) c.args.input.now c.run_recover.new.input c.args.output.now
-    c.run_recover.new.output c.where_done-in-Recover.result) (sym c.in-Recover.is)
+    subst (λ (w : Work). Runs g.R.Read.remaining g.W.Write.contents (IsWorkOutput w) c.args.input.now c.recover_told.new.input c.args.output.now
+    c.recover_told.new.output c.where_done-in-Recover.result) (sym c.in-Recover.is)
     (Runs-judged g.R.Read.remaining g.W.Write.contents where_done (IsRecoverOutput form expected passphrase.now)
     (IsWorkOutput (work.Recover passphrase form expected))
-    c.args.input.now c.run_recover.new.input c.args.output.now c.run_recover.new.output c.run_recover.result
-    c.where_done-in-Recover.result c.run_recover.ensures.runs c.where_done-in-Recover.ensures
+    c.args.input.now c.recover_told.new.input c.args.output.now c.recover_told.new.output c.recover_told.result
+    c.where_done-in-Recover.result c.recover_told.ensures.runs c.where_done-in-Recover.ensures
     (λ input text full output. (full, output, refl)))
 
 pub returns-in-Drill-clause-runs : goal.returns-in-Drill-clause-runs
@@ -109,51 +109,53 @@ returns-in-Resplit-clause-runs g c =
 
 pub returns-in-Show-clause-said : goal.returns-in-Show-clause-said
 returns-in-Show-clause-said g c =
-    unsaid_work g.R.Read.remaining g.E.Write.contents c.args.input.now.device c.args.self.now work.Show c.args.is_attended c.where_done.result c.args.errors.now
+    unsaid_work g.R.Read.remaining g.E.Write.contents c.args.input.now.device c.args.self.now work.Show c.args.notes.is_attended c.args.notes.tells_of_none c.where_done.result c.args.errors.now
     c.in-Show.is (λ _. refl)
 
 pub returns-in-Create-clause-said : goal.returns-in-Create-clause-said
 returns-in-Create-clause-said g c =
     unsaid_work g.R.Read.remaining g.E.Write.contents c.args.input.now.device
-    c.args.self.now (work.Create c.in-Create.creation) c.args.is_attended c.where_done-in-Create.result c.args.errors.now
+    c.args.self.now (work.Create c.in-Create.creation) c.args.notes.is_attended c.args.notes.tells_of_none c.where_done-in-Create.result c.args.errors.now
     c.in-Create.is (λ _. refl)
 
 pub returns-in-Recover-clause-said : goal.returns-in-Recover-clause-said
 returns-in-Recover-clause-said g c =
-    unsaid_work g.R.Read.remaining g.E.Write.contents c.args.input.now.device
-    c.args.self.now (work.Recover c.in-Recover.passphrase c.in-Recover.form c.in-Recover.expected) c.args.is_attended
-    c.where_done-in-Recover.result c.args.errors.now c.in-Recover.is (λ _. refl)
+    subst (λ (w : Work). SaysOnceRead g.R.Read.remaining g.E.Write.contents (early_lines w c.args.notes.is_attended c.args.notes.tells_of_none)
+    c.args.input.now.device c.where_done-in-Recover.result c.args.errors.now c.recover_told.new.errors) (sym c.in-Recover.is)
+    (said_judged g.R.Read.remaining g.E.Write.contents c.args.input.now.device where_done
+    (λ input. line_if c.args.notes.tells_of_none bare_line) c.recover_told.result c.where_done-in-Recover.result c.args.errors.now
+    c.recover_told.new.errors c.where_done-in-Recover.ensures c.recover_told.ensures.said)
 
 pub returns-in-Status-clause-said : goal.returns-in-Status-clause-said
 returns-in-Status-clause-said g c =
     unsaid_work g.R.Read.remaining g.E.Write.contents c.args.input.now.device
-    c.args.self.now work.Status c.args.is_attended c.with_enough.result c.args.errors.now
+    c.args.self.now work.Status c.args.notes.is_attended c.args.notes.tells_of_none c.with_enough.result c.args.errors.now
     c.in-Status.is (λ _. refl)
 
 pub returns-in-Reissue-clause-said : goal.returns-in-Reissue-clause-said
 returns-in-Reissue-clause-said g c =
     unsaid_work g.R.Read.remaining g.E.Write.contents c.args.input.now.device
-    c.args.self.now (work.Reissue c.in-Reissue.reissue) c.args.is_attended c.where_done-in-Reissue.result c.args.errors.now
+    c.args.self.now (work.Reissue c.in-Reissue.reissue) c.args.notes.is_attended c.args.notes.tells_of_none c.where_done-in-Reissue.result c.args.errors.now
     c.in-Reissue.is (λ _. refl)
 
 pub returns-in-Repair-clause-said : goal.returns-in-Repair-clause-said
 returns-in-Repair-clause-said g c =
     unsaid_work g.R.Read.remaining g.E.Write.contents c.args.input.now.device
-    c.args.self.now work.Repair c.args.is_attended c.run_repair.result c.args.errors.now
+    c.args.self.now work.Repair c.args.notes.is_attended c.args.notes.tells_of_none c.run_repair.result c.args.errors.now
     c.in-Repair.is (λ _. refl)
 
 pub returns-in-Resplit-clause-said : goal.returns-in-Resplit-clause-said
 returns-in-Resplit-clause-said g c =
     unsaid_work g.R.Read.remaining g.E.Write.contents c.args.input.now.device
-    c.args.self.now (work.Resplit c.in-Resplit.resplit) c.args.is_attended c.where_done-in-Resplit.result c.args.errors.now
+    c.args.self.now (work.Resplit c.in-Resplit.resplit) c.args.notes.is_attended c.args.notes.tells_of_none c.where_done-in-Resplit.result c.args.errors.now
     c.in-Resplit.is (λ _. refl)
 
 pub returns-in-Drill-clause-said : goal.returns-in-Drill-clause-said
 returns-in-Drill-clause-said g c =
-    subst (λ (w : Work). SaysOnceRead g.R.Read.remaining g.E.Write.contents (λ input. line_if c.args.is_attended (work_input_lines w input))
+    subst (λ (w : Work). SaysOnceRead g.R.Read.remaining g.E.Write.contents (early_lines w c.args.notes.is_attended c.args.notes.tells_of_none)
     c.args.input.now.device c.without_mismatches.result c.args.errors.now c.drill_told.new.errors) (sym c.in-Drill.is)
     (said_judged g.R.Read.remaining g.E.Write.contents c.args.input.now.device without_mismatches
-    (λ input. line_if c.args.is_attended (read_lines (read_as input))) c.drill_told.result c.without_mismatches.result c.args.errors.now
+    (λ input. line_if c.args.notes.is_attended (read_lines (read_as input))) c.drill_told.result c.without_mismatches.result c.args.errors.now
     c.drill_told.new.errors c.without_mismatches.ensures c.drill_told.ensures.said)
 
 -- ---- how many quorums are told of
