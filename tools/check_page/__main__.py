@@ -26,6 +26,7 @@ import astray  # noqa: E402
 import browsers  # noqa: E402
 import change  # noqa: E402
 import choices  # noqa: E402
+import decisions  # noqa: E402
 import entry  # noqa: E402
 import faults  # noqa: E402
 import forms  # noqa: E402
@@ -139,7 +140,7 @@ def checked(given):
     if given.faults:
         return 0 if tried("chromium", "faults", lambda: faults.check(ROOT / "shamir32.wasm", lambda text: print(text, flush=True))) else 1
     wanted = given.parts
-    passed = [tried("page", "sources", lambda: (sources.check(ROOT / "page"), sources.check_types(ROOT / "page")))] if "sources" in wanted else []
+    passed = [tried("page", "sources", lambda: (sources.check(ROOT / "page"), sources.check_types(ROOT / "page"), decisions.check()))] if "sources" in wanted else []
     modules = [ROOT / "shamir32.wasm", ROOT / "shamir.wasm"]
     url = given.page.resolve().as_uri()
     jobs = [(name, part, check) for name in given.browser for part, check in parts_of(name, url, modules, given.cases).items() if part in wanted]
