@@ -36,12 +36,13 @@ export async function checkPapers(desk) {
  *   title of the form for what was noted, and `drill` is that of the drill. `steps` are those of the papers, of what was noted, and of the
  *   drill. `hasDamaged` says that another damaged paper may be read
  * @param {(kinds: Kind[]) => HTMLElement[]} saidFew says what too few papers show
+ * @returns {Promise<boolean>}
  */
 export async function collectAndCheck(desk, what, saidFew) {
   const [papers, ...steps] = what.steps;
   for (;;) {
     setStep(papers);
-    let isDamaged = false;
+    let isDamaged = /** @type {boolean} */ (false);
     const onDamaged = what.hasDamaged ? () => (isDamaged = true) : null;
     const found = await collectPapers(desk, { ...what, task: "check", onDamaged });
     if (found === null) return isDamaged;
