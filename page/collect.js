@@ -127,8 +127,8 @@ class Collection {
       this.#backups = backups;
       this.#draw();
       const own = this.#backupOf(kind);
-      if (status.enough) this.#offerEnd(own);
       const isOther = isNew && this.#isApart && own.kinds.length === 1;
+      if (status.enough && !isOther) this.#offerEnd(own);
       const text = isOther ? this.#saidOther(kind) : `${this.#saidTaken(kind, isNew)} ${saidWhole(status, kind.groupCount, this.#task)}`;
       return { isTaken: true, isFault: isOther, text };
     } catch (error) {
@@ -225,20 +225,21 @@ class Collection {
   /** @param {Kind} kind */
   #row(kind) {
     const { name, words, begin, isRepaired } = kind;
-    const drop = button(say(this.#isApart ? "collect.drop.of" : "collect.drop", { name, begin }), () => this.#drop(kind), "small");
+    const drop = button(say("collect.drop", { name }), () => this.#drop(kind), "small");
+    // Papers of two backups may have one name.
+    if (this.#isApart) drop.setAttribute("aria-label", say("collect.drop.of", { name, begin }));
     return element("li", {}, say(isRepaired ? "collect.row.repaired" : "collect.row", { name, words }), drop);
   }
 
   /**
-   * Makes the button that goes on with a backup. Of several, the first one that is enough is likely to be meant.
+   * Makes the button that goes on with a backup. Of several, none is said to be the usual choice.
    *
    * @param {Backup | null} backup
    * @param {HTMLElement} place
    */
   #addEnd(backup, place) {
-    const isLikely = !this.#isApart || backup === this.#backups.find(({ status }) => status.enough);
     const label = this.#isApart ? say("collect.end.of", { begin: backup?.begin ?? "" }) : say("collect.end");
-    this.#ends.set(backup, { button: button(label, () => this.#end(backup), isLikely ? "primary" : ""), place });
+    this.#ends.set(backup, { button: button(label, () => this.#end(backup), this.#isApart ? "" : "primary"), place });
   }
 
   /**

@@ -186,7 +186,7 @@ FAULTS = [
     ("old papers aren't to be marked", "page/change_plan.js", 'first: say("change.mark"), ', "", of_page(lambda page: change.check_bare(page, unseen))),
     ("new papers are called by the words for old ones", "page/change_plan.js", ", isNew: true", "", of_page(lambda page: change.check_bare(page, unseen))),
     ("a paper that is written again isn't named", "page/result.js", ', ...form(isNoted ? "replace.right" : "replace.tried", again, isNoted ? "good" : "note")]', "]", of_page(lambda page: tasks.check_replace(page, unseen))),
-    ("the way on is out of sight of the fields", "page/collect.js", "if (status.enough) this.#offerEnd(own);", "", of_page(lambda page: choices.check_phone(page, unseen))),
+    ("the way on is out of sight of the fields", "page/collect.js", "if (status.enough && !isOther) this.#offerEnd(own);", "", of_page(lambda page: choices.check_phone(page, unseen))),
     ("a picture stands between a choice and its buttons", "page/which_paper.js", "asked.element];", 'asked.element, picture(status, kind.groupCount, "replace")];', of_page(lambda page: steps.check_which(page, unseen))),
     ("old papers stay among the new ones", "page/backups.js", "    this.clear();\n    return lines;", "    return lines;", of_page(lambda page: change.check_bare(page, unseen))),
     ("new papers that are half written are cleared at once", "page/change_plan.js", 'unfinished: "clear.changed"', 'unfinished: ""', of_page(lambda page: change.check_extendable(page, unseen))),
