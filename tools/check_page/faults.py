@@ -100,6 +100,7 @@ FAULTS = [
     ("the drill says that all are right", "page/quorums.js", "return tried.expected ?? ", "return true ?? ", of_page(lambda page: refusals.check_mixed(page, unseen))),
     ("the noted fingerprint isn't compared", "bindings/js/shamir.js", "[form, textOrNone(own, expect", "[FORM_FINGERPRINTS, textOrNone(own, expect", of_page(lambda page: tasks.check_papers(page, unseen))),
     ("an engine that gives another secret", "page/self_test.js", 'const SOUND_SECRET = "bb', 'const SOUND_SECRET = "bc', of_page(unseen)),
+    ("an engine that judges papers otherwise", "page/self_test.js", "!engine.judge([SOUND, TWO[0]]", "engine.judge([SOUND, TWO[0]]", of_page(unseen)),
     ("an engine that splits a backup anew otherwise", "page/self_test.js", "ascending(30,", "ascending(31,", of_page(unseen)),
     ("half written papers are cleared at once", "page/main.js", 'if (unfinishedKey() !== "") {', "if (false) {", of_page(lambda page: hidden(page))),
     ("Enter in a passphrase does nothing", "page/screen.js", 'if (event.key !== "Enter") return;', "return;", of_page(lambda page: steps.check_passphrase(page, unseen))),
