@@ -1,6 +1,7 @@
 """Where an owner who reads only the screen could go astray: papers that don't work, results that say too much, and what may be destroyed."""
 from browsers import Failed
 from entry import with_words as of_sound
+from looks import check_screen
 from refusals import changed, paste
 from tasks import FINGERPRINT, PASSPHRASE, SOUND_PAPER, THREE_GROUPS, answer_passphrase, begin, end, example, fingerprint_of, found_words, plain, read_paper, type_damaged, type_paper
 from texts import counted, say
@@ -268,7 +269,7 @@ def check_apart(page, see):
     paste(page, changed(THREE_GROUPS[4], exponent=3))
     page.wait_text(say("refused.23"))
     page.push(say("entry.empty"))
-    see("papers of three backups")
+    check_screen(page, "papers of three backups", see)
     # Papers of two backups have one name. Only the one that is meant is taken out, and comes back.
     page.push(say("collect.drop.of", name="0.0", begin=own))
     page.wait_text(say("collect.dropped", name="0.0"))
