@@ -3,8 +3,9 @@
     python3 tools/check_page [--browser NAME] [--page FILE] [--cases N] [--faults] [--no-pictures] [PART..]
 
 PART is one of sources, tasks, journey, change, refusals, entry, astray, hasty, long, looks, agreement, privacy, ways and webkit; without one, all of them run.
-`sources` also compares what the page decides with tools/decisions.json. `agreement` compares N backups, 20 if it isn't given. The pictures of each screen go to page/out, which takes time. `--faults` plants faults in copies of the
-sources instead, and checks that each is found. The status is 1 if something fails.
+`sources` also compares what the page decides with tools/decisions.json, and `agreement` compares N backups, 20 if it isn't given. The pictures
+of each screen go to page/out, which takes time. `--faults` plants faults in copies of the sources instead, and checks that each is found. The
+status is 1 if something fails.
 If a browser, or what the page is built with, isn't installed, its parts are left out. A part that fails beside others
 is tried once more, by itself.
 """
