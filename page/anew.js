@@ -1,6 +1,6 @@
 // New papers in place of old ones. What is computed of the secret isn't kept.
 import { zero } from "./bytes.js";
-import { kindOf } from "./kind.js";
+import { beside, kindOf } from "./kind.js";
 
 /** @typedef {import("../bindings/js/shamir.js").Engine} Engine */
 
@@ -19,11 +19,11 @@ export function renewed(engine, papers, passphrase, { plan, noted, extendable })
   try {
     const fingerprint = engine.fingerprint(secret);
     if (noted !== "" && noted !== fingerprint) return { fingerprint, made: [] };
-    const { exponent, id } = kindOf(engine, papers[0]);
+    const { exponent } = kindOf(engine, papers[0]);
     const create = () => engine.createBytes(plan, secret, { passphrase, exponent, extendable });
     let made = create();
     // With the old identifier, papers of both backups would be taken for one.
-    while (kindOf(engine, made[0]).id === id) {
+    while (beside(engine, made[0], papers[0]) !== "apart") {
       zero(...made);
       made = create();
     }

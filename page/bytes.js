@@ -28,6 +28,15 @@ export function shownText(bytes) {
 }
 
 /**
+ * Returns how many words a line has.
+ *
+ * @param {Uint8Array} line
+ */
+export function wordsIn(line) {
+  return line.reduce((sum, byte, at) => sum + (byte > 32 && (at === 0 || line[at - 1] <= 32) ? 1 : 0), 0);
+}
+
+/**
  * Returns digits as they were typed, in small letters and without spaces.
  *
  * @param {string} text
@@ -45,13 +54,16 @@ export function digitValue(digit) {
   return "0123456789abcdef".indexOf(String.fromCharCode(digit).toLowerCase());
 }
 
+/** @typedef {"missing" | "not_hex" | "odd" | ""} Fault why digits stand for no bytes, or an empty text */
+
 /**
  * Returns why digits stand for no bytes, or an empty text.
  *
  * @param {Uint8Array} digits
- * @returns {"not_hex" | "odd" | ""}
+ * @returns {Fault}
  */
 export function faultOf(digits) {
+  if (digits.length === 0) return "missing";
   if (digits.some((digit) => digitValue(digit) < 0)) return "not_hex";
   return digits.length % 2 ? "odd" : "";
 }

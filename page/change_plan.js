@@ -3,7 +3,7 @@ import { saidLeftOut } from "./check_papers.js";
 import { Declined, Stopped } from "./client.js";
 import { askForMore, askWhatNext, collectPapers } from "./collect.js";
 import { element, paragraph } from "./dom.js";
-import { askToDrill, runDrill, saidCount, toldVerdict, warnedTime } from "./drill.js";
+import { askToDrill, runDrill, toldCount, toldVerdict, warnedTime } from "./drill.js";
 import { askPassphrase } from "./passphrase.js";
 import { notedPlan, planNames, planText } from "./plan.js";
 import { askPlan, PlanChoice } from "./plan_choice.js";
@@ -187,13 +187,13 @@ async function drillAndEnd(desk, made) {
  */
 async function drillBeside(desk, made, given) {
   const [status, oldStatus, noted] = [await desk.ask("status"), await desk.ask("status", { isOld: true }), given ?? ""];
-  const counts = [element("h2", {}, say("change.old.title")), saidCount(oldStatus), element("h2", {}, say("change.new.title")), saidCount(status)];
+  const counts = [element("h2", {}, say("change.old.title")), toldCount(oldStatus), element("h2", {}, say("change.new.title")), toldCount(status)];
   if (!(await askToDrill(desk, counts, made.kind, { title: say("change.drill"), hasBack: true }))) return { answer: "again", told: "" };
   const old = await runDrill(desk, oldStatus, { title: say("change.work"), noted, isOld: true });
   if ("refused" in old) return { answer: "again", told: saidRefusal(old.refused) };
   if (old.result === "other" || old.result === "none") return { answer: "again", told: old.sentences.join(" ") };
   if (old.result !== "good") return tellUnlike(old, say("change.old.wrong"), { papers: "old" });
-  const verdict = await runDrill(desk, status, { title: say("change.work.new"), noted: noted || (old.fingerprint ?? ""), isOwn: noted === "", isNew: true });
+  const verdict = await runDrill(desk, status, { title: say("change.work.new"), noted: old.fingerprint, isOwn: noted === "", isNew: true });
   if ("refused" in verdict) return { answer: "again", told: saidRefusal(verdict.refused) };
   if (verdict.result === "good") return { answer: await tellDone(verdict, made, given), told: "" };
   // An extendable backup gives another secret only if the engine failed.

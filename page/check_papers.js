@@ -1,15 +1,17 @@
 // The task 'Check papers': papers are typed, and every quorum among them is tried.
 import { askForMore, askWhatNext, collectPapers } from "./collect.js";
 import { element, paragraph } from "./dom.js";
-import { askToDrill, runDrill, saidCount, toldVerdict } from "./drill.js";
+import { askToDrill, runDrill, toldCount, toldVerdict } from "./drill.js";
 import { askPassphrase } from "./passphrase.js";
 import { saidRefusal } from "./refusals.js";
-import { counted, say } from "./say.js";
+import { resultOf } from "./result.js";
+import { counted, formOf, say } from "./say.js";
 import { setStep, setSteps } from "./screen.js";
 
 /** @typedef {import("./client.js").Desk} Desk */
 /** @typedef {import("./desk.js").Status} Status */
 /** @typedef {import("./desk.js").Kind} Kind */
+/** @typedef {import("./desk.js").LeftOut} LeftOut */
 /** @typedef {import("./drill.js").Verdict} Verdict */
 
 /**
@@ -27,24 +29,27 @@ export async function checkPapers(desk) {
 }
 
 /**
- * Lets the owner type papers, and drills, until the owner is content.
+ * Lets the owner type papers, and drills, until the owner is content. Returns whether the owner has another damaged paper.
  *
  * @param {Desk} desk
- * @param {{title: string, intro: string, passphrase: string, drill: string, steps: number[], repaired?: string}} what `passphrase` is the
- *   title of the form for what was noted, `drill` is that of the drill, and `repaired` is the name of a paper of which words were found and
- *   not read. `steps` are those of the papers, of what was noted, and of the drill
+ * @param {{title: string, intro: string, passphrase: string, drill: string, steps: number[], hasDamaged?: boolean}} what `passphrase` is the
+ *   title of the form for what was noted, and `drill` is that of the drill. `steps` are those of the papers, of what was noted, and of the
+ *   drill. `hasDamaged` says that another damaged paper may be read
  * @param {(kinds: Kind[]) => HTMLElement[]} saidFew says what too few papers show
+ * @returns {Promise<boolean>}
  */
 export async function collectAndCheck(desk, what, saidFew) {
   const [papers, ...steps] = what.steps;
   for (;;) {
     setStep(papers);
-    const found = await collectPapers(desk, { ...what, task: "check" });
-    if (found === null) return;
+    let isDamaged = /** @type {boolean} */ (false);
+    const onDamaged = what.hasDamaged ? () => (isDamaged = true) : null;
+    const found = await collectPapers(desk, { ...what, task: "check", onDamaged });
+    if (found === null) return isDamaged;
     const { status, kinds } = found;
     const tooFew = async () => askForMore(say("check.done.few"), [...saidFew(kinds), await saidLeftOut(desk)], status, kinds);
-    const answer = status.enough ? await drillWithPassphrase(desk, status, kinds[0], { ...what, title: what.drill, steps }) : await tooFew();
-    if (answer === "end") return;
+    const answer = status.enough ? await drillWithPassphrase(desk, status, kinds, { ...what, title: what.drill, steps }) : await tooFew();
+    if (answer === "end") return false;
   }
 }
 
@@ -54,10 +59,12 @@ export async function collectAndCheck(desk, what, saidFew) {
  * @param {Desk} desk
  */
 export async function saidLeftOut(desk) {
-  const { unsound, names } = await desk.ask("leftOut");
-  if (unsound + names.length === 0) return null;
-  const sound = names.length ? paragraph(say(`left.sound.${names.length === 1 ? "one" : "many"}`, { names: names.join(", ") }), "note") : null;
-  return element("div", {}, unsound ? paragraph(counted(unsound, "left"), "bad") : null, sound);
+  /** @type {LeftOut} */
+  const { unsound, names, apart } = await desk.ask("leftOut");
+  if (unsound + names.length + apart.length === 0) return null;
+  const sound = names.length ? paragraph(say(`left.sound.${formOf(names)}`, { names: names.join(", ") }), "note") : null;
+  const others = apart.map((it) => paragraph(say(`left.backup.${formOf(it.names)}`, { names: it.names.join(", "), begin: it.begin }), "note"));
+  return element("div", {}, unsound ? paragraph(counted(unsound, "left"), "bad") : null, sound, ...others);
 }
 
 /**
@@ -65,13 +72,12 @@ export async function saidLeftOut(desk) {
  *
  * @param {Desk} desk
  * @param {Status} status
- * @param {Kind} kind
- * @param {{title: string, passphrase: string, steps: number[], repaired?: string, written?: string[]}} what `passphrase` is the title of the
- *   form for what was noted, and `title` is that of the drill. `steps` are those of both. `repaired` is the name of a paper of which words
- *   were found and not read, and `written` are the names of papers that were written again from others
+ * @param {Kind[]} kinds
+ * @param {{title: string, passphrase: string, steps: number[]}} what `passphrase` is the title of the form for what was noted, and `title` is
+ *   that of the drill. `steps` are those of both
  * @returns {Promise<"papers" | "end">}
  */
-export async function drillWithPassphrase(desk, status, kind, { title, passphrase, steps, repaired = "", written = [] }) {
+export async function drillWithPassphrase(desk, status, kinds, { title, passphrase, steps }) {
   let fault = "";
   /** @type {string | null} */
   let noted = null;
@@ -82,7 +88,7 @@ export async function drillWithPassphrase(desk, status, kind, { title, passphras
     if (given === null) return "papers";
     noted = given;
     setStep(steps[1]);
-    if (!(await askToDrill(desk, [saidCount(status)], kind, { title, hasBack: true }))) {
+    if (!(await askToDrill(desk, [toldCount(status)], kinds[0], { title, hasBack: true }))) {
       fault = "";
       continue;
     }
@@ -91,10 +97,7 @@ export async function drillWithPassphrase(desk, status, kind, { title, passphras
       fault = saidRefusal(verdict.refused);
       continue;
     }
-    const again = saidWritten(verdict, noted, written);
-    const anew = [...saidRepaired(verdict, noted, repaired), ...again];
-    const papers = { ...saidTried(verdict, status), left: await saidLeftOut(desk), anew, isWritten: again.length > 0 };
-    const answer = await tellVerdict(verdict, noted, papers);
+    const answer = await tellVerdict(verdict, noted, { status, kinds, left: await saidLeftOut(desk) });
     if (answer !== "again") return answer;
     fault = "";
   }
@@ -105,20 +108,18 @@ export async function drillWithPassphrase(desk, status, kind, { title, passphras
  *
  * @param {Verdict} verdict
  * @param {string} noted
- * @param {{tried: HTMLElement | null, untried: HTMLElement | null, left: HTMLElement | null, anew: HTMLElement[], isWritten: boolean}} papers
- *   what is said of the papers that were tried, of those that no quorum has, of those that were left out, and of those that were written
- *   anew. `isWritten` says that some of these were written from others
+ * @param {{status: Status, kinds: Kind[], left: HTMLElement | null}} papers `left` says which papers were left out
  */
-function tellVerdict(verdict, noted, { tried, untried, left, anew, isWritten }) {
+function tellVerdict(verdict, noted, { status, kinds, left }) {
   const { result, fingerprint, hasPassphrase, table } = verdict;
-  const isGood = result === "good";
-  // Without a noted fingerprint, no result is known to be good.
-  const isNoted = noted !== "";
+  const [isGood, isNoted] = [result === "good", noted !== ""];
+  const [repaired, written] = [kinds.filter((it) => it.isRepaired), kinds.filter((it) => it.isWritten)].map((them) => them.map(({ name }) => name));
+  const found = resultOf(verdict, isNoted, { here: status.groups.flatMap(({ names }) => names), repaired, written, isLeft: left !== null });
+  const [tried, anew] = [found.tried, found.anew].map((them) => them.map(({ key, names, kind }) => paragraph(say(key, { names: names.join(", ") }), kind)));
   const again = ["other", "none"].includes(result) ? `${say(hasPassphrase ? "check.again" : "check.again.none")} ` : "";
   const told = [
     toldVerdict(verdict),
-    tried,
-    untried,
+    ...tried,
     left,
     ...anew,
     isGood ? null : paragraph(again + say(`check.${result}`)),
@@ -126,55 +127,5 @@ function tellVerdict(verdict, noted, { tried, untried, left, anew, isWritten }) 
     table,
     paragraph(say("close")),
   ];
-  const next = { good: "end", stopped: "again", other: "again", none: "again", some: "papers", several: "papers" }[result];
-  const good = !isNoted ? "same" : left || untried ? "left_out" : isWritten ? "written" : "good";
-  const wrong = result === "other" && !hasPassphrase ? "other.none" : result;
-  return askWhatNext(say(`check.done.${isGood ? good : wrong}`), told, next, isGood && isNoted);
-}
-
-/**
- * Names the papers that were tried, and those that no quorum has.
- *
- * @param {Verdict} verdict
- * @param {Status} status
- */
-function saidTried({ result, names }, status) {
-  const here = status.groups.flatMap((group) => group.names);
-  const [tried, others] = [here.filter((name) => names.includes(name)), here.filter((name) => !names.includes(name))];
-  const isUntried = tried.length > 0 && others.length > 0 && result !== "stopped";
-  return {
-    tried: tried.length ? paragraph(say("verdict.papers", { names: tried.join(", ") })) : null,
-    untried: isUntried ? paragraph(say("verdict.papers.none", { names: others.join(", ") })) : null,
-  };
-}
-
-/**
- * Says what a drill shows of a repaired paper. Only a quorum that has it, and that gives the noted fingerprint, shows that its words are
- * right.
- *
- * @param {Verdict} verdict
- * @param {string} noted
- * @param {string} name the name of the repaired paper, or an empty text if there is none
- */
-function saidRepaired({ result, names, right }, noted, name) {
-  if (name === "") return [];
-  const isTried = names.includes(name);
-  if (isTried && result === "good" && noted !== "") return [paragraph(say("damaged.right.one", { names: name }), "good")];
-  const isSuspect = isTried && ["none", "some"].includes(result) && !right.includes(name);
-  const suspect = isSuspect ? [paragraph(say("damaged.suspect.one", { names: name }), "bad")] : [];
-  return [...suspect, paragraph(say("damaged.keep"), "note")];
-}
-
-/**
- * Says what a drill shows of papers that were written again. Only the noted fingerprint shows that they work.
- *
- * @param {Verdict} verdict
- * @param {string} noted
- * @param {string[]} written the names of these papers
- */
-function saidWritten({ result, names }, noted, written) {
-  const tried = written.filter((name) => names.includes(name));
-  if (result !== "good" || tried.length === 0) return [];
-  const [key, kind] = noted !== "" ? ["replace.right", "good"] : ["replace.tried", "note"];
-  return [paragraph(say(`${key}.${tried.length === 1 ? "one" : "many"}`, { names: tried.join(", ") }), kind)];
+  return askWhatNext(say(found.title), told, found.next, isGood && isNoted);
 }

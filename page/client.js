@@ -1,5 +1,6 @@
 // The page's side of the worker: it starts the worker, asks it one thing after the other, stops it and ends it.
 import { zero } from "./bytes.js";
+import { derivationSeconds } from "./estimate.js";
 
 /** @typedef {import("./desk.js").Tried} Tried */
 /** @typedef {import("./desk.js").Held} Held */
@@ -66,12 +67,12 @@ export class Desk {
   }
 
   /**
-   * Returns how many seconds one key derivation takes, from what was measured at the start. A long secret takes twice as long.
+   * Returns how many seconds one key derivation takes, from what was measured at the start.
    *
    * @param {{exponent: number, secretBytes: number}} kind
    */
   secondsFor({ exponent, secretBytes }) {
-    return (this.begun.milliseconds / 1000) * 2 ** exponent * (secretBytes > 64 ? 2 : 1);
+    return derivationSeconds(this.begun.milliseconds / 1000, exponent, secretBytes);
   }
 
   #started() {
@@ -187,10 +188,12 @@ export class Desk {
 /**
  * Returns the arrays that are held, except those that a worker has taken over, which have no length any more.
  *
- * @param {Held} held
+ * @param {unknown} held
+ * @returns {Uint8Array[]}
  */
 function arraysOf(held) {
-  return [...held.papers, ...held.old, ...held.dropped, ...held.left, ...held.shown, held.passphrase, held.secret].filter((bytes) => bytes.length > 0);
+  if (held instanceof Uint8Array) return held.length > 0 ? [held] : [];
+  return typeof held === "object" && held !== null ? Object.values(held).flatMap(arraysOf) : [];
 }
 
 /** @param {Held} held */

@@ -1,32 +1,33 @@
-// The screen on which papers are typed, one after the other.
+// The screen on which papers are typed, one after the other. Those of several backups are kept apart, and the owner goes on with those of one.
 import { BACK, button, element, paragraph } from "./dom.js";
 import { leaveEntry, PaperEntry, USUAL_WORDS } from "./paper_entry.js";
 import { picture, saidWhole } from "./picture.js";
-import { saidForeign, wordsToLookAt } from "./refusals.js";
+import { saidForeign, saidRepaired, wordsToLookAt } from "./refusals.js";
 import { say } from "./say.js";
 import { ask, show } from "./screen.js";
 
 /** @typedef {import("./client.js").Desk} Desk */
 /** @typedef {import("./desk.js").Status} Status */
 /** @typedef {import("./desk.js").Kind} Kind */
+/** @typedef {import("./desk.js").Backup} Backup */
 /** @typedef {import("./paper_entry.js").Answer} Answer */
 
-/** @typedef {{status: Status, kinds: Kind[]}} Collected */
+/** @typedef {{status: Status, kinds: Kind[]}} Collected the papers of the backup that the owner goes on with */
+/** @typedef {{task?: string, onDamaged?: (() => void) | null}} More `task` has its own words for what is enough. `onDamaged` is called before the end if the owner has another damaged paper; without it, none is asked for */
+/** @typedef {{button: HTMLButtonElement, place: HTMLElement}} End the button that goes on with a backup, and where it stands */
 
 /**
- * Lets the owner type papers, beside those that the worker holds already, and returns what they are together. Before the first
- * paper, the owner can go back: then it returns null.
+ * Lets the owner type papers, beside those that the worker holds already, and returns those of the backup that the owner goes on with.
+ * Before the first paper, the owner can go back: then it returns null, as it does if the owner has another damaged paper.
  *
  * @param {Desk} desk
- * @param {{title: string, intro: string, repaired?: string, task?: string}} what `repaired` is the name of a paper that was repaired, if
- *   there is one, and `task` has its own words for what is enough
+ * @param {{title: string, intro: string} & More} what
  * @returns {Promise<Collected | null>}
  */
-export async function collectPapers(desk, { title, intro, repaired = "", task = "" }) {
-  /** @type {Kind[]} */
-  const kinds = await desk.ask("kinds");
-  const status = kinds.length ? await desk.ask("status") : null;
-  return new Promise((resolve) => new Collection(desk, { kinds, status, repaired, task, onEnd: resolve }).show(title, intro));
+export async function collectPapers(desk, { title, intro, ...more }) {
+  /** @type {Backup[]} */
+  const backups = await desk.ask("backups");
+  return new Promise((resolve) => new Collection(desk, backups, more, resolve).show(title, intro));
 }
 
 /**
@@ -63,10 +64,9 @@ export function askWhatNext(title, told, likely, isGood = false) {
 
 class Collection {
   #desk;
-  #kinds;
-  #status;
-  #repaired;
+  #backups;
   #task;
+  #onDamaged;
   #onEnd;
   #found = element("div", { class: "found" });
   // The way back after a paper was taken out.
@@ -75,23 +75,25 @@ class Collection {
   // What is asked if words were typed and not read.
   #question = element("div", { class: "buttons" });
   #back = button(say("back"), () => leaveEntry(this.#entry, () => this.#onEnd(null)), BACK);
-  #ended = button(say("collect.end"), () => this.#end(), "primary");
-  #buttons = element("div", { class: "buttons" }, this.#ended);
+  #another = button(say("damaged.another"), () => leaveEntry(this.#entry, () => this.#endDamaged()));
+  #buttons = element("div", { class: "buttons" });
+  /** @type {Map<Backup | null, End>} what goes on with each backup, or with none if no paper was read yet */
+  #ends = new Map();
   #entry;
 
   /**
    * @param {Desk} desk
-   * @param {{kinds: Kind[], status: Status | null, repaired: string, task: string, onEnd: (found: Collected | null) => void}} start
-   *   `kinds` are the papers that the worker holds
+   * @param {Backup[]} backups the papers that the worker holds
+   * @param {More} more
+   * @param {(found: Collected | null) => void} onEnd
    */
-  constructor(desk, { kinds, status, repaired, task, onEnd }) {
+  constructor(desk, backups, { task = "", onDamaged = null }, onEnd) {
     this.#desk = desk;
-    this.#kinds = kinds;
-    this.#status = status;
-    this.#repaired = repaired;
+    this.#backups = backups;
     this.#task = task;
+    this.#onDamaged = onDamaged;
     this.#onEnd = onEnd;
-    this.#entry = new PaperEntry(desk.begun.words, kinds[0]?.words ?? USUAL_WORDS[0], (line) => this.#take(line));
+    this.#entry = new PaperEntry(desk.begun.words, backups[0]?.kinds[0].words ?? USUAL_WORDS[0], (line) => this.#take(line));
   }
 
   /**
@@ -106,30 +108,66 @@ class Collection {
     this.#entry.focus();
   }
 
+  get #isApart() {
+    return this.#backups.length > 1;
+  }
+
+  /** The names of the papers of which words were found. */
+  get #repaired() {
+    return this.#backups.flatMap(({ kinds }) => kinds).filter(({ isRepaired }) => isRepaired).map(({ name }) => name);
+  }
+
   /**
    * @param {Uint8Array} line
    * @returns {Promise<Answer>}
    */
   async #take(line) {
     try {
-      const { kind, isNew, status } = await this.#desk.ask("add", { line }, [line.buffer]);
-      if (isNew) this.#kinds.push(kind);
-      this.#status = status;
+      const { kind, isNew, status, backups } = await this.#desk.ask("add", { line }, [line.buffer]);
+      this.#backups = backups;
       this.#draw();
-      this.#offerEnd(status.enough);
-      const told = say(isNew ? "collect.taken" : "collect.repeated", { name: kind.name });
-      return { isTaken: true, text: `${told} ${saidWhole(status, kind.groupCount, this.#task)}` };
+      const own = this.#backupOf(kind);
+      const isOther = isNew && this.#isApart && own.kinds.length === 1;
+      if (status.enough && !isOther) this.#offerEnd(own);
+      const text = isOther ? this.#saidOther(kind) : `${this.#saidTaken(kind, isNew)} ${saidWhole(status, kind.groupCount, this.#task)}`;
+      return { isTaken: true, isFault: isOther, text };
     } catch (error) {
-      this.#offerEnd(false);
-      const repaired = this.#kinds.filter(({ name }) => name === this.#repaired).map(({ name }) => name);
-      return { isTaken: false, text: saidForeign(error, repaired), words: wordsToLookAt(error) };
+      this.#offerEnd(null);
+      return { isTaken: false, text: saidForeign(error, this.#repaired), words: wordsToLookAt(error) };
     }
   }
 
-  /** @param {string} name */
-  async #drop(name) {
-    this.#status = await this.#desk.ask("drop", { name });
-    this.#kinds = this.#kinds.filter((it) => it.name !== name);
+  /**
+   * Returns the backup of a paper.
+   *
+   * @param {Kind} kind
+   */
+  #backupOf({ id }) {
+    return /** @type {Backup} */ (this.#backups.find((it) => it.id === id));
+  }
+
+  /**
+   * @param {Kind} kind
+   * @param {boolean} isNew
+   */
+  #saidTaken({ name, begin }, isNew) {
+    if (!isNew) return say("collect.repeated", { name });
+    return this.#isApart ? say("collect.taken.of", { name, begin }) : say("collect.taken", { name });
+  }
+
+  /**
+   * Says that a paper is the first one of another backup. If words of one were found, most likely they are wrong.
+   *
+   * @param {Kind} kind
+   */
+  #saidOther({ name, begin }) {
+    const repaired = this.#repaired;
+    return `${say("collect.taken.apart", { name, begin })} ${repaired.length ? saidRepaired(repaired) : ""}`.trim();
+  }
+
+  /** @param {Kind} kind */
+  async #drop({ id, name }) {
+    this.#backups = await this.#desk.ask("drop", { id, name });
     this.#draw();
     this.#undo.replaceChildren(button(say("collect.undo", { name }), () => this.#putBack(), "small"));
     this.#entry.say(say("collect.dropped", { name }));
@@ -137,35 +175,71 @@ class Collection {
   }
 
   async #putBack() {
-    const { kind, status } = await this.#desk.ask("putBack");
-    this.#kinds.push(kind);
-    this.#status = status;
+    const { kind, backups } = await this.#desk.ask("putBack");
+    this.#backups = backups;
     this.#draw();
     this.#entry.say(say("collect.undone", { name: kind.name }));
     this.#entry.focus();
   }
 
   /**
-   * Puts the button that goes on below an answer that says that the papers are enough, and below all else otherwise.
+   * Puts the button that goes on with a backup below an answer that says that its papers are enough, and each other one to its place.
    *
-   * @param {boolean} isBelowAnswer
+   * @param {Backup | null} enough
    */
-  #offerEnd(isBelowAnswer) {
-    if (isBelowAnswer) this.#entry.below.append(this.#ended);
-    else this.#buttons.prepend(this.#ended);
+  #offerEnd(enough) {
+    for (const [backup, { button, place }] of this.#ends) {
+      if (enough !== null && backup === enough) this.#entry.below.append(button);
+      else place.prepend(button);
+    }
   }
 
   #draw() {
     this.#say("");
-    this.#offerEnd(false);
     this.#undo.replaceChildren();
-    this.#back.classList.toggle("hide", this.#kinds.length > 0);
-    const rows = this.#kinds.map(({ name, words }) =>
-      element("li", {}, say(name === this.#repaired ? "collect.row.repaired" : "collect.row", { name, words }), button(say("collect.drop", { name }), () => this.#drop(name), "small")),
-    );
-    this.#found.replaceChildren();
-    if (!this.#status) return;
-    this.#found.append(element("h2", {}, say("collect.found")), element("ul", { class: "rows" }, ...rows), picture(this.#status, this.#kinds[0].groupCount, this.#task));
+    this.#back.classList.toggle("hide", this.#backups.length > 0);
+    for (const it of this.#ends.values()) it.button.remove();
+    this.#ends.clear();
+    if (this.#backups.length === 0) this.#addEnd(null, this.#buttons);
+    const told = this.#isApart ? [paragraph(say("collect.apart", { count: this.#backups.length }), "bad")] : [];
+    const heading = this.#backups.length ? [element("h2", {}, say("collect.found"))] : [];
+    this.#found.replaceChildren(...heading, ...told, ...this.#backups.map((it) => this.#section(it)));
+    this.#offerEnd(null);
+    if (this.#onDamaged) this.#buttons.append(this.#another);
+  }
+
+  /**
+   * Makes the list of the papers of a backup, and the picture of what is complete.
+   *
+   * @param {Backup} backup
+   */
+  #section(backup) {
+    const { begin, kinds, status } = backup;
+    const section = element("section", {}, this.#isApart ? element("h3", {}, say("status.backup", { begin })) : null);
+    section.append(element("ul", { class: "rows" }, ...kinds.map((kind) => this.#row(kind))), picture(status, kinds[0].groupCount, this.#task));
+    if (this.#isApart) section.append(element("div", { class: "buttons" }));
+    this.#addEnd(backup, this.#isApart ? /** @type {HTMLElement} */ (section.lastElementChild) : this.#buttons);
+    return section;
+  }
+
+  /** @param {Kind} kind */
+  #row(kind) {
+    const { name, words, begin, isRepaired } = kind;
+    const drop = button(say("collect.drop", { name }), () => this.#drop(kind), "small");
+    // Papers of two backups may have one name.
+    if (this.#isApart) drop.setAttribute("aria-label", say("collect.drop.of", { name, begin }));
+    return element("li", {}, say(isRepaired ? "collect.row.repaired" : "collect.row", { name, words }), drop);
+  }
+
+  /**
+   * Makes the button that goes on with a backup. Of several, none is said to be the usual choice.
+   *
+   * @param {Backup | null} backup
+   * @param {HTMLElement} place
+   */
+  #addEnd(backup, place) {
+    const label = this.#isApart ? say("collect.end.of", { begin: backup?.begin ?? "" }) : say("collect.end");
+    this.#ends.set(backup, { button: button(label, () => this.#end(backup), this.#isApart ? "" : "primary"), place });
   }
 
   /**
@@ -180,15 +254,25 @@ class Collection {
     answers[0]?.focus();
   }
 
-  /** Ends the typing. Words that weren't read as a paper would be lost, so the owner is asked first. */
-  #end() {
+  /**
+   * Ends the typing. Words that weren't read as a paper would be lost, so the owner is asked first.
+   *
+   * @param {Backup | null} backup
+   */
+  async #end(backup) {
     if (!this.#entry.isEmpty) {
-      this.#say(say("collect.unread"), button(say("collect.unread.stay"), () => this.#stay(), "small"), button(say("collect.unread.drop"), () => this.#leaveOut(), "small"));
-    } else if (this.#status) {
-      this.#onEnd({ status: this.#status, kinds: this.#kinds });
+      this.#say(say("collect.unread"), button(say("collect.unread.stay"), () => this.#stay(), "small"), button(say("collect.unread.drop"), () => this.#leaveOut(backup), "small"));
+    } else if (backup) {
+      await this.#desk.ask("choose", { id: backup.id });
+      this.#onEnd({ status: backup.status, kinds: backup.kinds });
     } else {
       this.#say(say("collect.none"));
     }
+  }
+
+  #endDamaged() {
+    this.#onDamaged?.();
+    this.#onEnd(null);
   }
 
   #stay() {
@@ -196,10 +280,11 @@ class Collection {
     this.#entry.focus();
   }
 
-  async #leaveOut() {
+  /** @param {Backup | null} backup */
+  async #leaveOut(backup) {
     const line = this.#entry.line();
     this.#entry.clear();
     await this.#desk.ask("leaveOut", { line }, [line.buffer]);
-    this.#end();
+    this.#end(backup);
   }
 }

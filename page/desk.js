@@ -2,55 +2,51 @@
 // which it takes over, and gets names, counts, fingerprints and refusals. It gets words or digits only to show them.
 import { Code, EXPONENT_MAX, load, Refusal } from "../bindings/js/shamir.js";
 import { renewed } from "./anew.js";
-import { hex, unhex, zero } from "./bytes.js";
+import { Backups, statusOf } from "./backups.js";
+import { hex, unhex, wordsIn, zero } from "./bytes.js";
 import { mix } from "./dice.js";
 import { judge } from "./judge.js";
-import { isSame, kindOf, nameOf, wordsIn } from "./kind.js";
-import { isBegun, resembles } from "./left_out.js";
+import { beside, kindOf } from "./kind.js";
 import { selfTest } from "./self_test.js";
 
 /** @typedef {import("../bindings/js/shamir.js").Engine} Engine */
 /** @typedef {{group: number, threshold: number, names: string[]}} GroupStatus */
-/** @typedef {{complete: number, required: number, enough: boolean, groups: GroupStatus[], quorums: bigint}} Status */
+/** @typedef {{complete: number, required: number, enough: boolean, groups: GroupStatus[]}} Standing what is complete */
+/** @typedef {Standing & {quorums: bigint}} Status */
 /** @typedef {{names: string[], fingerprint: string | null, expected: boolean | null, mismatch: number | null}} Tried */
-/** @typedef {{name: string, words: number, id: number, secretBytes: number, exponent: number, extendable: boolean, groupCount: number, groupThreshold: number, memberThreshold: number, isPossible: boolean}} Kind */
-/** @typedef {{papers: Uint8Array[], old: Uint8Array[], dropped: Uint8Array[], left: Uint8Array[], shown: Uint8Array[], passphrase: Uint8Array, secret: Uint8Array, fingerprint: string}} Held */
+/** @typedef {{name: string, words: number, begin: string, id: number, secretBytes: number, exponent: number, extendable: boolean, groupCount: number, groupThreshold: number, memberThreshold: number, isPossible: boolean, isRepaired: boolean, isWritten: boolean}} Kind what a paper is, its first words, and whether words of it were found, or it was written again from others */
+/** @typedef {{id: number, begin: string, kinds: Kind[], status: Status}} Backup the papers of a backup, all of which begin with the same words */
+/** @typedef {{unsound: number, names: string[], apart: {begin: string, names: string[]}[]}} LeftOut */
+/** @typedef {"" | "repaired" | "written"} How how the papers that are shown were made: as new ones, by words that were found, or from others */
+/** @typedef {{old: Uint8Array[], shown: Uint8Array[], how: How, passphrase: Uint8Array, secret: Uint8Array, fingerprint: string}} Own */
+/** @typedef {Own & {backups: import("./backups.js").Kept}} Held */
 /** @typedef {{code: number, details: number[], text: string}} Refused */
 
 /** @type {Engine} */
 let engine;
-/** @type {Held} */
+/** @type {Backups} */
+let backups;
+/** @type {Own} */
 let held = nothing();
 
-/** @returns {Held} */
+/** @returns {Own} */
 function nothing() {
-  return { papers: [], old: [], dropped: [], left: [], shown: [], passphrase: new Uint8Array(), secret: new Uint8Array(), fingerprint: "" };
+  return { old: [], shown: [], how: "", passphrase: new Uint8Array(), secret: new Uint8Array(), fingerprint: "" };
 }
 
 function clear() {
-  zero(...held.papers, ...held.old, ...held.dropped, ...held.left, ...held.shown, held.passphrase, held.secret);
+  backups?.clear();
+  zero(...held.old, ...held.shown, held.passphrase, held.secret);
   held = nothing();
 }
 
 /**
- * Returns what is complete, and how many quorums there are, or 2^64 - 1 if there are more.
- *
- * @param {Uint8Array[]} lines
- * @returns {Status}
- */
-function statusOf(lines) {
-  const { complete, required, enough, groups } = engine.status(lines);
-  const shown = groups.map(({ group, threshold, names }) => ({ group, threshold, names: [...names] }));
-  return { complete, required, enough, groups: shown, quorums: engine.quorums(lines) };
-}
-
-/**
- * Returns the papers that are here, or the old ones whose plan changes.
+ * Returns the papers of the backup that the task goes on with, or the old ones whose plan changes.
  *
  * @param {{isOld?: boolean}} given
  */
 function papersOf({ isOld = false }) {
-  return isOld ? held.old : held.papers;
+  return isOld ? held.old : backups.lines;
 }
 
 /**
@@ -67,77 +63,16 @@ function describe({ line }) {
 }
 
 /**
- * Takes a paper. `isNew` is false if it was typed before. A paper that is refused is taken note of.
+ * Takes a paper, and says what its backup has with it.
  *
  * @param {{line: Uint8Array}} given
  */
 function add({ line }) {
-  return wipedUnlessTaken(line, () => {
-    try {
-      const kind = kindOf(engine, line);
-      const status = statusOf([...held.papers, line]);
-      const isNew = !held.papers.some((paper) => isSame(engine, paper, line));
-      if (isNew) held.papers.push(line);
-      return { kind, isNew, status };
-    } catch (error) {
-      if (error instanceof Refusal) leaveOut({ line: line.slice() });
-      throw error;
-    }
-  });
-}
-
-/**
- * Takes note of a paper that was begun, and that isn't taken. A few words are no paper.
- *
- * @param {{line: Uint8Array}} given
- */
-function leaveOut({ line }) {
-  const earlier = held.left.filter((it) => resembles(it, line));
-  if (isBegun(line)) held.left = [...held.left.filter((it) => !earlier.includes(it)), line];
-  zero(...(isBegun(line) ? earlier : [line]));
-}
-
-/** Returns how many papers were begun and aren't here because they aren't sound, and the names of those that are sound. */
-function leftOut() {
-  const left = held.left.filter((line) => !held.papers.some((paper) => resembles(line, paper)));
-  const names = left.flatMap((line) => nameOf(engine, line));
-  return { unsound: left.length - names.length, names };
-}
-
-/**
- * Wipes a line after `use`, unless it is among the papers then.
- *
- * @template T
- * @param {Uint8Array} line
- * @param {() => T} use
- */
-function wipedUnlessTaken(line, use) {
   try {
-    return use();
+    return backups.add(line);
   } finally {
-    if (!held.papers.includes(line)) zero(line);
+    zero(line);
   }
-}
-
-/**
- * Puts a paper away. It can be put back until another one is put away.
- *
- * @param {{name: string}} given
- */
-function drop({ name }) {
-  zero(...held.dropped);
-  held.dropped = held.papers.filter((paper) => kindOf(engine, paper).name === name);
-  held.papers = held.papers.filter((paper) => !held.dropped.includes(paper));
-  return held.papers.length ? statusOf(held.papers) : null;
-}
-
-/** Takes the paper again that was put away last. */
-function putBack() {
-  const [paper] = held.dropped;
-  const status = statusOf([...held.papers, paper]);
-  held.papers.push(paper);
-  held.dropped = [];
-  return { kind: kindOf(engine, paper), status };
 }
 
 /** @param {{passphrase: Uint8Array}} given */
@@ -167,7 +102,7 @@ function tryPassphrase({ passphrase }) {
  * says which digit is none, and `words` how many words each paper has.
  *
  * @param {{plan: string, bytes: number, dice?: Uint8Array, digits: Uint8Array | null, noted?: string, exponent: number, extendable: boolean}} given
- * @returns {{fault: "not_hex" | "odd" | "other" | "", fingerprint: string, place?: number, words?: number}}
+ * @returns {import("./judge.js").Judged & {words?: number}}
  */
 function make({ plan, bytes, dice = new Uint8Array(), digits, noted = "", exponent, extendable }) {
   if (digits) {
@@ -186,6 +121,7 @@ function make({ plan, bytes, dice = new Uint8Array(), digits, noted = "", expone
     const shown = engine.createBytes(plan, secret, { passphrase: held.passphrase, exponent, extendable });
     zero(...held.shown);
     held.shown = shown;
+    held.how = "";
     held.fingerprint = fingerprint;
     return { fault: "", fingerprint, words: wordsIn(shown[0]) };
   } finally {
@@ -201,7 +137,8 @@ function make({ plan, bytes, dice = new Uint8Array(), digits, noted = "", expone
  */
 function putAside(made) {
   zero(...held.old, ...held.shown);
-  [held.old, held.papers, held.shown] = [held.papers, [], made];
+  [held.old, held.shown] = [backups.moveOut(), made];
+  held.how = "";
   return wordsIn(made[0]);
 }
 
@@ -211,7 +148,7 @@ function putAside(made) {
  * @param {{plan: string}} given
  */
 function resplit({ plan }) {
-  return putAside(engine.resplitBytes(plan, held.papers));
+  return putAside(engine.resplitBytes(plan, backups.lines));
 }
 
 /**
@@ -221,7 +158,7 @@ function resplit({ plan }) {
  * @param {{plan: string, noted: string, extendable: boolean}} given
  */
 function renew(given) {
-  const { fingerprint, made } = renewed(engine, held.papers, held.passphrase, given);
+  const { fingerprint, made } = renewed(engine, backups.lines, held.passphrase, given);
   return { fingerprint, words: made.length ? putAside(made) : 0 };
 }
 
@@ -231,38 +168,44 @@ function renew(given) {
  * @param {{plan: string, name: string}} given
  */
 function reissue({ plan, name }) {
-  held.shown.push(...engine.reissueBytes(plan, name, held.papers));
+  held.shown.push(...engine.reissueBytes(plan, name, backups.lines));
+  held.how = "written";
   return held.shown.length - 1;
 }
 
 /**
- * Finds the papers that fit what can be read of one, and keeps them to be shown. Returns what they are.
+ * Finds the papers that fit what can be read of one, and keeps them to be shown. Returns what they are, and whether each can be of one
+ * backup with the papers that are here.
  *
  * @param {{line: Uint8Array}} given
  */
 function repair({ line }) {
   zero(...held.shown);
   held.shown = [];
+  held.how = "repaired";
   try {
     held.shown = engine.repairBytes(line);
-    return held.shown.map((line) => kindOf(engine, line));
+    return held.shown.map((line) => ({ ...kindOf(engine, line), isFitting: backups.fits(line) }));
   } finally {
     zero(line);
   }
 }
 
 /**
- * Compares a paper that was typed back with the one that was shown, and takes it if they are the same.
+ * Compares a paper that was typed back with the one that was shown, and takes it if they are the same. `isForeign` says that it is of
+ * another backup.
  *
  * @param {{index: number, line: Uint8Array}} given
  */
 function typedBack({ index, line }) {
-  return wipedUnlessTaken(line, () => {
+  try {
     const kind = kindOf(engine, line);
-    const same = isSame(engine, line, held.shown[index]);
-    if (same) held.papers.push(line);
-    return { kind, isSame: same };
-  });
+    const found = beside(engine, line, held.shown[index]);
+    if (found === "same") backups.addShown(line, held.how);
+    return { kind, isSame: found === "same", isForeign: found === "conflict" || found === "apart" };
+  } finally {
+    zero(line);
+  }
 }
 
 /**
@@ -319,7 +262,7 @@ function tryOne({ names, expect, isOld }) {
  */
 function recover({ noted }) {
   forgetSecret();
-  held.secret = engine.recover(held.papers, { passphrase: held.passphrase });
+  held.secret = engine.recover(backups.lines, { passphrase: held.passphrase });
   const fingerprint = engine.fingerprint(held.secret);
   if (noted !== "" && noted !== fingerprint) forgetSecret();
   return fingerprint;
@@ -331,13 +274,33 @@ function forgetSecret() {
 }
 
 /**
+ * Whether a text can be a fingerprint. Without papers the engine compares none.
+ *
+ * @param {{noted: string}} given
+ */
+function isFingerprint({ noted }) {
+  try {
+    engine.recover([], { expect: noted });
+  } catch (error) {
+    if (!(error instanceof Refusal)) throw error;
+    return error.code !== Code.BAD_FINGERPRINT;
+  }
+  return true;
+}
+
+/**
  * Starts the engine, and tries it. `kept` is what an earlier worker held.
  *
  * @param {{module: Uint8Array, kept: Held | null}} given
  */
 async function begin({ module, kept }) {
   engine = await load(module);
-  if (kept) held = kept;
+  backups = new Backups(engine);
+  if (kept) {
+    const { backups: papers, ...own } = kept;
+    held = own;
+    backups.restore(papers);
+  }
   const tested = kept ? { fault: null, milliseconds: 0 } : selfTest(engine);
   return { ...tested, version: engine.version(), words: [...engine.words("")], exponentMax: EXPONENT_MAX };
 }
@@ -347,12 +310,15 @@ const CALLS = {
   begin,
   describe,
   add,
-  leaveOut,
-  leftOut,
-  drop,
-  putBack,
+  leaveOut: ({ line }) => backups.leaveOut(line),
+  leftOut: () => backups.leftOut,
+  backups: () => backups.list,
+  choose: ({ id }) => backups.choose(id),
+  drop: ({ id, name }) => backups.drop(id, name),
+  putBack: () => backups.putBack(),
   passphrase,
   tryPassphrase,
+  isFingerprint,
   make,
   resplit,
   renew,
@@ -367,11 +333,11 @@ const CALLS = {
   digits: () => hex(held.secret),
   plan: ({ plan, bytes }) => engine.randomNeeded(plan, bytes),
   paper: ({ index }) => held.shown[index].slice(),
-  status: (given) => statusOf(papersOf(given)),
-  kinds: () => held.papers.map((line) => kindOf(engine, line)),
+  status: (given) => statusOf(engine, papersOf(given)),
+  kinds: () => backups.kinds,
   fingerprint: () => held.fingerprint,
   hasPassphrase: () => held.passphrase.length > 0,
-  keep: () => held,
+  keep: () => ({ ...held, backups: backups.kept }),
   clear,
 };
 

@@ -1,29 +1,20 @@
 // The drill: each quorum of the papers that were typed, in a table that fills, and what they say together.
-import { Code, OF_GROUPS } from "../bindings/js/refusal.js";
+import { Code } from "../bindings/js/refusal.js";
 import { Declined, Stopped } from "./client.js";
 import { BACK, button, element, paragraph } from "./dom.js";
-import { estimated } from "./estimate.js";
-import { COUNTED_MOST, fingerprints, isRight, quorumWith, suspects, TRIED_FIRST, TRIED_WHOLE } from "./quorums.js";
-import { counted, say, saidTime } from "./say.js";
+import { estimated, LONG_EXPONENT } from "./estimate.js";
+import { quorumWith, TRIED_FIRST, TRIED_WHOLE } from "./quorums.js";
+import { say, saidTime } from "./say.js";
 import { announce, ask, show } from "./screen.js";
+import { saidCount, saidOutcome, saidTried, verdictOf } from "./verdict.js";
 
 /** @typedef {import("./client.js").Desk} Desk */
 /** @typedef {import("./desk.js").Status} Status */
 /** @typedef {import("./desk.js").Tried} Tried */
 /** @typedef {import("./desk.js").Kind} Kind */
-/**
- * What a drill found: no fault, or that it was stopped, or that all quorums give another secret than the expected one, that none
- * gives it, that some don't, or that they give several secrets. With it how many quorums were tried, if not all were, the sentences that
- * say what was found, the papers that were tried, those of them that are in a right quorum, whether a passphrase was typed, whether the
- * secret was compared with what the owner noted, and is equal, whether something is wrong, and the table of quorums.
- *
- * @typedef {{result: "good" | "stopped" | "other" | "none" | "some" | "several", fingerprint: string | null, part: string, sentences: string[], names: string[], right: string[], hasPassphrase: boolean, isEqual: boolean, isWrong: boolean, table: HTMLElement | null}} Verdict
- */
+/** @typedef {import("./verdict.js").Asked} Asked */
+/** @typedef {import("./verdict.js").Verdict & {table: HTMLElement | null}} Verdict what a drill found, and the table of quorums */
 
-/** @typedef {{noted: string, isOwn: boolean, isNew: boolean, hasPassphrase: boolean}} Asked the fingerprint that is expected, and what else a verdict depends on */
-
-/** From this exponent on, the page says how long a derivation takes. */
-export const LONG_EXPONENT = 5;
 /** The table shows at most this many quorums that gave the expected secret, and as many others. */
 const ROWS_MAX = 500;
 /** A screen reader is told of the progress after so many milliseconds, and not at each change. */
@@ -44,8 +35,8 @@ export function warnedTime(desk, kind) {
  *
  * @param {Status} status
  */
-export function saidCount({ quorums: total }) {
-  return paragraph(say(total <= TRIED_WHOLE ? "drill.count" : "drill.count_part", { total: said(total), first: TRIED_FIRST }));
+export function toldCount({ quorums }) {
+  return paragraph(saidCount(quorums));
 }
 
 /**
@@ -89,7 +80,7 @@ export async function runDrill(desk, status, { title, noted, isOwn = false, isOl
     if (!(error instanceof Stopped)) throw error;
     isStopped = true;
   }
-  return table.end(isStopped, { noted, isOwn, isNew, hasPassphrase });
+  return table.end({ noted, isOwn, isNew, hasPassphrase, isStopped });
 }
 
 /**
@@ -108,16 +99,6 @@ async function tryEachPaper(desk, status, what, table) {
     known.add(names.join("+"));
     table.add(await desk.askLong("tryOne", { names, ...what }));
   }
-}
-
-/**
- * Says a whole number, up to the one up to which the engine counts.
- *
- * @param {bigint | number} number
- */
-function said(number) {
-  const text = number.toLocaleString("en");
-  return number === COUNTED_MOST ? say("number.least", { number: text }) : text;
 }
 
 /** The table of a drill, and its progress. */
@@ -177,7 +158,7 @@ class Table {
 
   /** How many quorums were tried so far. */
   get #told() {
-    return say("drill.tried", { tried: said(this.tried.length), total: said(this.#total) });
+    return saidTried(this.tried.length, this.#total);
   }
 
   /** @param {Tried} tried */
@@ -188,36 +169,18 @@ class Table {
       this.#more.textContent = say("drill.more_rows", { rows: ROWS_MAX });
       return null;
     }
-    return element("tr", { class: kind }, element("td", {}, tried.names.join(" + ")), element("td", {}, this.#gave(tried)));
-  }
-
-  /** @param {Tried} tried */
-  #gave({ fingerprint, expected, mismatch }) {
-    if (mismatch === OF_GROUPS) return say("drill.mismatch_groups");
-    if (mismatch !== null) return say("drill.mismatch", { group: mismatch });
-    if (fingerprint !== null) return say("drill.fingerprint", { fingerprint });
-    return expected ? say("drill.expected", { fingerprint: this.#noted }) : say("drill.other");
+    return element("tr", { class: kind }, element("td", {}, tried.names.join(" + ")), element("td", {}, saidOutcome(tried, this.#noted)));
   }
 
   /**
    * Returns the verdict.
    *
-   * @param {boolean} isStopped
    * @param {Asked} asked
    * @returns {Verdict}
    */
-  end(isStopped, asked) {
-    const { result, right, sentences } = verdictOf(this.tried, this.#total, asked);
-    if (this.tried.length === 0) sentences.length = 0;
-    const isWhole = !isStopped && BigInt(this.tried.length) === this.#total;
-    const part = isWhole ? "" : this.#told;
-    const fingerprint = fingerprints(this.tried)[0]?.[0] ?? null;
-    // Green says that something was compared with what the owner noted, and is equal.
-    const isEqual = result === "good" && !isStopped && asked.noted !== "" && !asked.isOwn;
-    const isWrong = result !== "good" && this.tried.length > 0;
-    const table = this.tried.length ? this.#shown(isStopped || result !== "good") : null;
-    const told = { part, sentences, isEqual, isWrong, table };
-    return { result: isStopped ? "stopped" : result, fingerprint, names: namesOf(this.tried), right, hasPassphrase: asked.hasPassphrase, ...told };
+  end(asked) {
+    const verdict = verdictOf(this.tried, this.#total, asked);
+    return { ...verdict, table: this.tried.length ? this.#shown(verdict.result !== "good") : null };
   }
 
   /**
@@ -239,72 +202,4 @@ export function toldVerdict({ part, sentences, isEqual, isWrong }) {
   const kind = isWrong ? "bad" : isEqual ? "good" : "note";
   const tried = part ? paragraph(part, "note") : null;
   return element("div", { class: "verdict" }, tried, ...sentences.map((text) => paragraph(text, kind)), paragraph(say("quorum.what"), "hint"));
-}
-
-/**
- * Returns the papers that were tried.
- *
- * @param {Tried[]} tried
- */
-function namesOf(tried) {
-  return [...new Set(tried.flatMap(({ names }) => names))];
-}
-
-/**
- * Returns what a drill found, and says it.
- *
- * @param {Tried[]} tried
- * @param {bigint} total
- * @param {Asked} asked
- * @returns {Pick<Verdict, "result" | "right" | "sentences">}
- */
-function verdictOf(tried, total, asked) {
-  const { noted, isOwn, isNew } = asked;
-  const found = fingerprints(tried);
-  const fingerprint = noted !== "" ? noted : found[0]?.[0] ?? "";
-  const right = tried.filter((it) => isRight(it, fingerprint));
-  const wrong = tried.filter((it) => !isRight(it, fingerprint));
-  const quorums = counted(tried.length, "quorum");
-  if (tried.length > 0 && wrong.length === 0) {
-    const whole = BigInt(tried.length) === total ? "all" : "tried";
-    const which = noted === "" ? "same" : isOwn ? "own" : "noted";
-    return { result: "good", right: namesOf(right), sentences: [say(`verdict.${whole}.${which}${isNew ? ".new" : ""}`, { quorums, fingerprint })] };
-  }
-  const verdict = right.length ? wrongVerdict(right, wrong, found.length, noted, quorums) : noneVerdict(wrong, asked, quorums);
-  return { ...verdict, right: namesOf(right) };
-}
-
-/**
- * Says that no quorum is right.
- *
- * @param {Tried[]} wrong
- * @param {Asked} asked
- * @param {string} quorums
- * @returns {Pick<Verdict, "result" | "sentences">}
- */
-function noneVerdict(wrong, { noted, hasPassphrase }, quorums) {
-  const mismatched = wrong.filter((it) => it.mismatch !== null).length;
-  // The passphrase changes nothing about papers that don't belong together.
-  if (mismatched === wrong.length) return { result: "some", sentences: [say("verdict.nothing", { quorums })] };
-  const result = mismatched === 0 ? "other" : "none";
-  const key = result === "other" && !hasPassphrase ? "other.none" : result;
-  return { result, sentences: [say(`verdict.${key}`, { quorums, noted })] };
-}
-
-/**
- * Says which quorums are wrong, and which papers may be.
- *
- * @param {Tried[]} right
- * @param {Tried[]} wrong
- * @param {number} secrets how many fingerprints were found, if none is expected
- * @param {string} noted
- * @param {string} quorums
- * @returns {Pick<Verdict, "result" | "sentences">}
- */
-function wrongVerdict(right, wrong, secrets, noted, quorums) {
-  if (secrets > 1) return { result: "several", sentences: [say("verdict.several", { quorums, secrets: counted(secrets, "secret") })] };
-  const sentences = [say(noted === "" ? "verdict.some.unnoted" : "verdict.some", { wrong: wrong.length, quorums })];
-  const names = suspects(right, wrong);
-  if (names.length) sentences.push(say(`verdict.suspects.${names.length === 1 ? "one" : "many"}`, { names: names.join(", ") }));
-  return { result: "some", sentences };
 }

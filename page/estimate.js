@@ -1,6 +1,23 @@
-// A bar that moves as far as the estimate of a long work says. The work itself is one call of the engine, which tells nothing before its end.
+// How long work takes, and a bar that moves as far as this estimate says. The work itself is one call of the engine, which tells nothing
+// before its end.
 import { element } from "./dom.js";
 import { say, saidTime } from "./say.js";
+
+/** From this exponent on, the page says how long a derivation takes. */
+export const LONG_EXPONENT = 5;
+// The key of a longer secret is derived in two parts.
+const SECRET_BYTES = 64;
+
+/**
+ * Returns how many seconds one key derivation takes, if one of 10,000 iterations takes so many.
+ *
+ * @param {number} measured
+ * @param {number} exponent
+ * @param {number} secretBytes
+ */
+export function derivationSeconds(measured, exponent, secretBytes) {
+  return measured * 2 ** exponent * (secretBytes > SECRET_BYTES ? 2 : 1);
+}
 
 // Work that is estimated to take fewer seconds has no bar.
 const SHOWN_FROM = 3;

@@ -2,6 +2,7 @@
 import { digitValue, faultOf, unhex, zero } from "./bytes.js";
 
 /** @typedef {import("../bindings/js/shamir.js").Engine} Engine */
+/** @typedef {{fault: import("./bytes.js").Fault | "other", fingerprint: string, place?: number}} Judged */
 
 /**
  * Returns what is wrong with the digits of a secret, or an empty text: they have another fingerprint than the one that was noted ("other"),
@@ -9,7 +10,7 @@ import { digitValue, faultOf, unhex, zero } from "./bytes.js";
  *
  * @param {Engine} engine
  * @param {{plan: string, digits: Uint8Array, noted: string}} given
- * @returns {{fault: "not_hex" | "odd" | "other" | "", fingerprint: string, place?: number}}
+ * @returns {Judged}
  */
 export function judge(engine, { plan, digits, noted }) {
   const fault = faultOf(digits);

@@ -1,19 +1,25 @@
-// What a paper is, as the engine reads it, and whether two lines spell the same paper.
+// What a paper is, and what it is beside another one. The engine says both.
+import { Papers } from "../bindings/js/papers.js";
 import { Code, Refusal } from "../bindings/js/shamir.js";
-import { zero } from "./bytes.js";
+import { shownText, wordsIn, zero } from "./bytes.js";
 
 /** @typedef {import("../bindings/js/shamir.js").Engine} Engine */
 /** @typedef {import("./desk.js").Kind} Kind */
 
+/** All papers of a backup begin with so many words, and those of another backup with others. */
+const BEGIN_WORDS = 2;
+
 /**
- * Reads a paper. If its checksum is wrong, the refusal is the one by which the engine says where to look.
+ * Returns what `read` reads of a paper. If its checksum is wrong, the refusal is the one by which the engine says where to look.
  *
+ * @template T
  * @param {Engine} engine
  * @param {Uint8Array} line
+ * @param {() => T} read
  */
-function parsed(engine, line) {
+export function located(engine, line, read) {
   try {
-    return engine.parse(line);
+    return read();
   } catch (error) {
     if (error instanceof Refusal && error.code === Code.BAD_CHECKSUM) zero(...engine.repairBytes(line));
     throw error;
@@ -21,12 +27,17 @@ function parsed(engine, line) {
 }
 
 /**
- * Returns how many words a line has.
+ * Returns the first words of a line, which aren't secret.
  *
  * @param {Uint8Array} line
  */
-export function wordsIn(line) {
-  return line.reduce((sum, byte, at) => sum + (byte > 32 && (at === 0 || line[at - 1] <= 32) ? 1 : 0), 0);
+function beginOf(line) {
+  let end = 0;
+  for (let words = 0; end < line.length && words < BEGIN_WORDS; words += 1) {
+    while (line[end] <= 32) end += 1;
+    while (line[end] > 32) end += 1;
+  }
+  return shownText(line.subarray(0, end)).trim().toLowerCase().split(/\s+/).join(" ");
 }
 
 /**
@@ -37,11 +48,12 @@ export function wordsIn(line) {
  * @returns {Kind}
  */
 export function kindOf(engine, line) {
-  const share = parsed(engine, line);
+  const share = located(engine, line, () => engine.parse(line));
   zero(share.value);
   return {
     name: `${share.groupIndex}.${share.memberIndex}`,
     words: wordsIn(line),
+    begin: beginOf(line),
     id: share.id,
     secretBytes: share.value.length,
     exponent: share.exponent,
@@ -50,6 +62,8 @@ export function kindOf(engine, line) {
     groupThreshold: share.groupThreshold,
     memberThreshold: share.memberThreshold,
     isPossible: share.groupIndex < share.groupCount,
+    isRepaired: false,
+    isWritten: false,
   };
 }
 
@@ -69,16 +83,24 @@ export function nameOf(engine, line) {
 }
 
 /**
- * Whether two lines spell the same share.
+ * Returns what a sound paper is beside another one: the same, one more of its backup, one that can't be of its backup although it says so
+ * ("conflict"), or one of another backup ("apart").
  *
  * @param {Engine} engine
- * @param {Uint8Array} one
+ * @param {Uint8Array} line
  * @param {Uint8Array} other
+ * @returns {"same" | "more" | "conflict" | "apart"}
  */
-export function isSame(engine, one, other) {
-  const [a, b] = [engine.parse(one), engine.parse(other)];
-  const fields = /** @type {(keyof typeof a)[]} */ (Object.keys(a)).filter((field) => field !== "value");
-  const same = fields.every((field) => a[field] === b[field]) && a.value.length === b.value.length && a.value.every((byte, at) => byte === b.value[at]);
-  zero(a.value, b.value);
-  return same;
+export function beside(engine, line, other) {
+  const papers = new Papers(engine);
+  try {
+    papers.add(other);
+    if (papers.add(line).again) return "same";
+    return papers.ids.length === 1 ? "more" : "apart";
+  } catch (error) {
+    if (error instanceof Refusal && error.code >= Code.OTHER_IDENTIFIER && error.code <= Code.CONFLICTING_SHARE) return "conflict";
+    throw error;
+  } finally {
+    papers.clear();
+  }
 }

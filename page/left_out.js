@@ -1,4 +1,5 @@
 // Papers that were begun and that weren't taken, until they are typed soundly. The worker keeps their lines.
+import { wordsIn } from "./bytes.js";
 
 /** The first letters of a word, so many, identify it. */
 const IDENTIFYING = 4;
@@ -42,5 +43,5 @@ export function resembles(one, other) {
  * @param {Uint8Array} line
  */
 export function isBegun(line) {
-  return numbersOf(line).size >= BEGUN_LEAST;
+  return wordsIn(line) >= BEGUN_LEAST;
 }

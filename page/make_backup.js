@@ -3,7 +3,9 @@ import { bytesOf, typedDigits, zero } from "./bytes.js";
 import { Declined, Stopped } from "./client.js";
 import { THROWS_LEAST } from "./dice.js";
 import { BACK, choice, element, hidden, labelled, paragraph } from "./dom.js";
-import { LONG_EXPONENT, toldVerdict } from "./drill.js";
+import { saidDigits } from "./digits.js";
+import { toldVerdict } from "./drill.js";
+import { LONG_EXPONENT } from "./estimate.js";
 import { noteAndDrill } from "./note_and_drill.js";
 import { notedFields, passphraseFields } from "./passphrase.js";
 import { notedPlan, planNames, planText } from "./plan.js";
@@ -75,10 +77,13 @@ class SecretFields {
   #noted;
   #bytes;
 
-  /** @param {Chosen} first what is chosen at first */
-  constructor({ source, noted, words }) {
+  /**
+   * @param {Desk} desk
+   * @param {Chosen} first what is chosen at first
+   */
+  constructor(desk, { source, noted, words }) {
     this.source = source;
-    this.#noted = notedFields(noted);
+    this.#noted = notedFields(desk, noted);
     this.#bytes = BYTES[words];
     const values = { words, bytes: this.#bytes };
     const options = /** @type {const} */ (["new", "own"]).map((key) => ({ key, label: say(`secret.${key}`), hint: say(`secret.${key}.hint`, values) }));
@@ -91,16 +96,16 @@ class SecretFields {
   }
 
   /** Returns what is missing, or null. */
-  missing() {
+  async missing() {
     if (this.source !== "own") return null;
     const [typed, again] = [this.#digits, this.#again].map(({ field }) => typedDigits(field.value));
     if (typed === "") return say("secret.missing");
     return typed === again ? this.#noted.missing() : say("secret.differ");
   }
 
-  /** The fingerprint that was noted, or an empty text if none was, or null if that isn't said yet. */
-  get noted() {
-    return this.#noted.missing() === null ? this.#noted.read() : null;
+  /** Returns the fingerprint that was noted, or an empty text if none was, or null if that isn't said yet. */
+  async noted() {
+    return (await this.#noted.missing()) === null ? this.#noted.read() : null;
   }
 
   /**
@@ -114,7 +119,7 @@ class SecretFields {
     if (digits === null) return null;
     const count = digits.length;
     try {
-      return saidJudged(await desk.ask("judge", { plan: planText(plan), digits, noted }, [digits.buffer]), count, noted) || null;
+      return saidDigits(await desk.ask("judge", { plan: planText(plan), digits, noted }, [digits.buffer]), count, noted) || null;
     } catch (error) {
       return saidError(error);
     }
@@ -130,17 +135,6 @@ class SecretFields {
     const digits = this.source === "own" ? bytesOf(typedDigits(this.#digits.field.value)) : null;
     return { bytes: this.#bytes, digits, noted: digits ? this.#noted.read() : "" };
   }
-}
-
-/**
- * Says what is wrong with digits, or nothing.
- *
- * @param {{fault: string, fingerprint: string, place?: number}} judged
- * @param {number} digits how many were typed
- * @param {string} noted
- */
-function saidJudged({ fault, fingerprint, place = 0 }, digits, noted) {
-  return fault === "" ? "" : say(`secret.${fault}`, { digits, fingerprint, place, noted });
 }
 
 /** The fields under 'More'. */
@@ -207,18 +201,18 @@ async function create(desk, plan, chosen) {
   let fault = "";
   setStep(3);
   for (;;) {
-    const secret = new SecretFields(chosen);
+    const secret = new SecretFields(desk, chosen);
     const [more, passphrase] = [new MoreFields(desk, chosen, secret), passphraseFields(desk, true)];
     /** @type {Typed | null} */
     let typed = null;
-    const keep = () => {
+    const keep = async () => {
       chosen.source = secret.source;
-      if (secret.source === "own") chosen.noted = secret.noted ?? chosen.noted;
+      if (secret.source === "own") chosen.noted = (await secret.noted()) ?? chosen.noted;
       if (more.missing() === null) chosen.exponent = more.exponent;
       return null;
     };
     const take = async () => {
-      const lacks = secret.missing() ?? passphrase.missing() ?? more.missing() ?? (await secret.refusal(desk, plan));
+      const lacks = (await secret.missing()) ?? passphrase.missing() ?? more.missing() ?? (await secret.refusal(desk, plan));
       if (lacks === null) typed = { secret: secret.read(), dice: more.read(), passphrase: passphrase.read() };
       return lacks ?? keep();
     };
@@ -254,7 +248,7 @@ async function created(desk, plan, { secret, dice, passphrase }, { exponent, wal
     const { fault, fingerprint, place = 0, words = 0 } = await desk.askLong("make", { plan: planText(plan), exponent, extendable: wallet === "flag", dice, ...secret });
     if (fault === "" && secret.noted !== "") tellNext(say("secret.same"), "good");
     if (dice.length) tellNext(say("more.dice.mixed"));
-    return { fault: saidJudged({ fault, fingerprint, place }, digits, secret.noted), words };
+    return { fault: saidDigits({ fault, fingerprint, place }, digits, secret.noted), words };
   } catch (error) {
     if (error instanceof Stopped) return { fault: say("make.stopped"), words: 0 };
     if (!(error instanceof Declined)) throw error;

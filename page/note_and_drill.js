@@ -1,6 +1,6 @@
 // The end of 'Make a backup': the owner notes the fingerprint, types what was noted, and every quorum is tried with that.
 import { element, paragraph } from "./dom.js";
-import { askToDrill, runDrill, saidCount, toldVerdict } from "./drill.js";
+import { askToDrill, runDrill, toldCount, toldVerdict } from "./drill.js";
 import { askPassphrase } from "./passphrase.js";
 import { saidRefusal } from "./refusals.js";
 import { say } from "./say.js";
@@ -77,7 +77,7 @@ function askNotes(desk, { fingerprint, isOwn }, fault, noted) {
 async function drillWith(desk, made, noted) {
   setStep(8);
   const [status, kinds, title] = [await desk.ask("status"), await desk.ask("kinds"), say("make.drill")];
-  if (!(await askToDrill(desk, [saidCount(status)], kinds[0], { title, hasBack: true }))) return { answer: "again", refused: "" };
+  if (!(await askToDrill(desk, [toldCount(status)], kinds[0], { title, hasBack: true }))) return { answer: "again", refused: "" };
   const verdict = await runDrill(desk, status, { title, noted: noted || made.fingerprint, isOwn: noted === "" });
   if ("refused" in verdict) return { answer: "again", refused: saidRefusal(verdict.refused) };
   if (verdict.result === "good") return { answer: verdict, refused: "" };

@@ -7,7 +7,6 @@ import { ask } from "./screen.js";
 
 /** @typedef {import("./client.js").Desk} Desk */
 
-const FINGERPRINT = /^[0-9a-f]{8}$/;
 /** How many characters a new passphrase has at most: as many bytes as the program `shamir` reads from a file. */
 const LONGEST = 1024;
 
@@ -66,20 +65,24 @@ async function refusalOf(desk, typed) {
 /**
  * Makes the field for the noted fingerprint, and the box that says that none was noted.
  *
+ * @param {Desk} desk
  * @param {string | null} noted what was said before, or null
  * @param {boolean} [mayLack] whether the owner may have noted none
  */
-export function notedFields(noted, mayLack = true) {
+export function notedFields(desk, noted, mayLack = true) {
   const none = tick(say("noted.none"));
   const { box, field } = labelled(say("noted.label"), "text", { hint: say("noted.hint"), attributes: { maxlength: "16", input: () => (none.field.checked = false) } });
   field.value = noted ?? "";
   none.field.checked = noted === "";
   const read = () => typedDigits(field.value);
   /** Returns what is missing, or null. */
-  const missing = () => {
-    if (none.field.checked) return read() === "" ? null : say("noted.both");
-    if (read() === "") return say(mayLack ? "noted.missing" : "proof.missing");
-    return FINGERPRINT.test(read()) ? null : say(mayLack ? "noted.wrong" : "proof.wrong");
+  const missing = async () => {
+    const typed = read();
+    if (none.field.checked) return typed === "" ? null : say("noted.both");
+    if (typed === "") return say(mayLack ? "noted.missing" : "proof.missing");
+    // If the worker has failed, the next step tells it.
+    const isRight = await desk.ask("isFingerprint", { noted: typed }).catch(() => true);
+    return isRight ? null : say(mayLack ? "noted.wrong" : "proof.wrong");
   };
   return { box: element("div", { class: "fields" }, box, mayLack ? none.box : null), missing, read };
 }
@@ -94,10 +97,10 @@ export function notedFields(noted, mayLack = true) {
  *   says whether the owner may have noted no fingerprint. `refuse` says what is wrong with a fingerprint, or null: then what was typed stays
  */
 export async function askPassphrase(desk, { title, fault, noted, why = say("passphrase.why"), back = say("back"), mayLack = true, refuse = () => null }) {
-  const [passphrase, fingerprint] = [passphraseFields(desk, false), notedFields(noted, mayLack)];
+  const [passphrase, fingerprint] = [passphraseFields(desk, false), notedFields(desk, noted, mayLack)];
   const typed = { passphrase: new Uint8Array(), fingerprint: "" };
-  const take = () => {
-    const lacks = passphrase.missing() ?? fingerprint.missing() ?? refuse(fingerprint.read());
+  const take = async () => {
+    const lacks = passphrase.missing() ?? (await fingerprint.missing()) ?? refuse(fingerprint.read());
     if (lacks === null) Object.assign(typed, { passphrase: passphrase.read(), fingerprint: fingerprint.read() });
     return lacks;
   };

@@ -2,7 +2,7 @@
 import { element } from "./dom.js";
 import { counted, say } from "./say.js";
 
-/** @typedef {import("./desk.js").Status} Status */
+/** @typedef {import("./desk.js").Standing} Standing */
 /** @typedef {import("./desk.js").GroupStatus} GroupStatus */
 
 /**
@@ -32,7 +32,7 @@ function boxes({ threshold, names }) {
  * Draws the groups of the papers that were typed. `groupCount` is how many groups their backup has. `task` has its own words for what is
  * enough.
  *
- * @param {Status} status
+ * @param {Standing} status
  * @param {number} groupCount
  * @param {string} [task]
  */
@@ -57,7 +57,7 @@ export function picture(status, groupCount, task = "") {
 /**
  * Says whether the papers are enough. An owner whose backup has one group needn't know of groups.
  *
- * @param {Status} status
+ * @param {Standing} status
  * @param {number} groupCount
  * @param {string} [task]
  */

@@ -1,6 +1,6 @@
 // A plan: how many groups are needed, and of each group how many members it has and needs. The engine decides which plans are
 // right; this only writes their text and says them in words.
-import { counted, say } from "./say.js";
+import { counted, formOf, say } from "./say.js";
 
 export const GROUPS_MAX = 16;
 export const MEMBERS_MAX = 16;
@@ -67,11 +67,6 @@ export function notedPlan(plan) {
   return say("make.note", { said: said[0].toLowerCase() + said.slice(1, -1), plan: planText(plan) });
 }
 
-/** @param {unknown[]} names */
-function form(names) {
-  return names.length === 1 ? "one" : "many";
-}
-
 /**
  * Returns the groups of which one paper is enough.
  *
@@ -91,13 +86,13 @@ export function saidDangers(plan) {
   const said = [];
   if (needed === groups.length) {
     const alone = groups.flatMap(({ members }, at) => (members === 1 ? [`${at}.0`] : []));
-    if (alone.length) said.push(say(`plan.lost.${form(alone)}`, { names: alone.join(", ") }));
+    if (alone.length) said.push(say(`plan.lost.${formOf(alone)}`, { names: alone.join(", ") }));
     groups.forEach((group, at) => {
       if (group.members > 1 && group.needed === group.members) said.push(say(groups.length === 1 ? "plan.lost.any" : "plan.lost.group", { group: at }));
     });
   }
   const single = singles(plan);
-  if (single.length && needed === 1) said.push(say(`plan.found.${form(single)}`, { names: single.map((at) => `${at}.0`).join(", ") }));
+  if (single.length && needed === 1) said.push(say(`plan.found.${formOf(single)}`, { names: single.map((at) => `${at}.0`).join(", ") }));
   return said.join(" ");
 }
 
@@ -108,7 +103,7 @@ export function saidDangers(plan) {
  */
 export function saidSingles(plan) {
   const single = singles(plan);
-  return single.length && plan.needed > 1 ? say(`plan.found.group.${form(single)}`, { groups: single.join(", ") }) : "";
+  return single.length && plan.needed > 1 ? say(`plan.found.group.${formOf(single)}`, { groups: single.join(", ") }) : "";
 }
 
 /**
@@ -131,6 +126,18 @@ export function saidTakes(plan, name) {
 export function saidTakesAlone({ name, groupCount, groupThreshold, memberThreshold }) {
   if (groupCount > 1) return saidUse(Number(name.split(".")[0]), memberThreshold, groupThreshold);
   return memberThreshold === 1 ? say("plan.sentence.one") : say("takes.papers", { needed: memberThreshold });
+}
+
+/**
+ * Says which other papers are needed besides this one, as far as the paper itself says so.
+ *
+ * @param {Pick<Kind, "name" | "groupCount" | "groupThreshold" | "memberThreshold">} kind
+ */
+export function saidOthers({ name, groupCount, groupThreshold, memberThreshold }) {
+  const [group, papers, groups] = [Number(name.split(".")[0]), counted(memberThreshold - 1, "paper"), counted(groupThreshold - 1, "whole")];
+  if (memberThreshold === 1) return groupThreshold === 1 ? say("what.others.none") : say("what.others.groups", { groups });
+  if (groupThreshold > 1) return say("what.others.both", { papers, group, groups });
+  return groupCount === 1 ? say("what.others.papers", { papers }) : say("what.others.group", { papers, group });
 }
 
 /**

@@ -13,7 +13,8 @@ import { isOpen } from "./spelling.js";
 /** @typedef {import("./client.js").Desk} Desk */
 /** @typedef {import("./desk.js").Kind} Kind */
 /** @typedef {import("./paper_entry.js").Answer} Answer */
-/** @typedef {{index: number, kind: Kind}} Fit a paper that fits, and its number among those that the worker keeps to be shown */
+/** @typedef {Kind & {isFitting: boolean}} Found what a paper is that fits what was typed, and whether it can be of one backup with the papers that are here */
+/** @typedef {{index: number, kind: Found}} Fit a paper that fits, and its number among those that the worker keeps to be shown */
 
 /**
  * Reads a damaged paper.
@@ -22,13 +23,14 @@ import { isOpen } from "./spelling.js";
  */
 export async function readDamaged(desk) {
   setSteps(6);
-  const fit = await askWhatIsRead(desk);
-  if (fit === null) return;
-  const { index, kind } = fit;
-  await writeAndTypeBack(desk, { index, name: kind.name, takes: saidTakesAlone(kind) }, kind.words, 2);
   const titles = { title: say("damaged.check.title"), passphrase: say("damaged.passphrase"), drill: say("damaged.drill") };
-  const what = { ...titles, intro: say("damaged.check.intro"), steps: [4, 5, 6], repaired: kind.name };
-  await collectAndCheck(desk, what, () => [paragraph(say("damaged.too_few"), "note")]);
+  const what = { ...titles, intro: say("damaged.check.intro"), steps: [4, 5, 6], hasDamaged: true };
+  do {
+    setStep(1);
+    const fit = await askWhatIsRead(desk);
+    if (fit) await writeAndTypeBack(desk, { index: fit.index, name: fit.kind.name, takes: saidTakesAlone(fit.kind) }, fit.kind.words, 2);
+    else if ((await desk.ask("backups")).length === 0) return;
+  } while (await collectAndCheck(desk, what, () => [paragraph(say("damaged.too_few"), "note")]));
 }
 
 /**
@@ -41,18 +43,27 @@ function askWhatIsRead(desk) {
   return new Promise((resolve) => new Damaged(desk, resolve).show());
 }
 
-/** @param {Kind} kind */
-function saidImpossible({ name, groupCount }) {
-  return say("damaged.impossible", { name, groups: counted(groupCount, "group") });
+/**
+ * Says why a paper that fits what was typed can't be right.
+ *
+ * @param {Found} kind
+ */
+function saidImpossible({ name, groupCount, isPossible }) {
+  return isPossible ? say("damaged.apart", { name }) : say("damaged.impossible", { name, groups: counted(groupCount, "group") });
+}
+
+/** @param {Found} kind */
+function mayBeRight({ isPossible, isFitting }) {
+  return isPossible && isFitting;
 }
 
 /**
  * Returns what the fields are told of the papers that fit.
  *
- * @param {Kind[]} kinds
+ * @param {Found[]} kinds
  */
 function answerOf(kinds) {
-  const possible = kinds.filter((kind) => kind.isPossible);
+  const possible = kinds.filter(mayBeRight);
   if (possible.length === 0) return { isFault: true, text: saidImpossible(kinds[0]) };
   return { isFault: false, text: say(possible.length > 1 ? "damaged.two" : "damaged.one", { name: possible[0].name }) };
 }
@@ -113,13 +124,13 @@ class Damaged {
   /**
    * Shows the words of each paper that fits, where they differ from what was typed.
    *
-   * @param {Kind[]} kinds
+   * @param {Found[]} kinds
    * @param {string[]} marks
    */
   async #tell(kinds, marks) {
     setTouched(true);
     const open = marks.filter((mark) => isOpen(this.#desk.begun.words, mark)).length;
-    const [possible, impossible] = [kinds.filter((kind) => kind.isPossible), kinds.filter((kind) => !kind.isPossible)];
+    const [possible, impossible] = [kinds.filter(mayBeRight), kinds.filter((kind) => !mayBeRight(kind))];
     const isOneOfTwo = possible.length > 1;
     const fits = possible.map((kind) => this.#fit({ index: kinds.indexOf(kind), kind }, marks, isOneOfTwo));
     const heading = element("h2", { tabindex: "-1" }, say("damaged.found"));

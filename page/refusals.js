@@ -1,7 +1,7 @@
 // What a refusal of the engine means to an owner, and what to do.
 import { Code, OF_GROUPS } from "../bindings/js/refusal.js";
 import { Declined } from "./client.js";
-import { counted, hasText, say } from "./say.js";
+import { counted, formOf, hasText, say } from "./say.js";
 
 /** @typedef {import("./desk.js").Refused} Refused */
 
@@ -35,7 +35,7 @@ function saidUndetermined([first, second], task) {
  */
 export function saidRefusal({ code, details, text }, task = "") {
   const [first, second] = details;
-  const name = `refused.${code}${formOf(code, details)}`;
+  const name = `refused.${code}${ofGroups(code, details)}`;
   const key = [`${task}.${name}`, name, "refused.other"].find(hasText) ?? "";
   return code === Code.UNDETERMINED ? saidUndetermined(details, task) : say(key, { first, second, text });
 }
@@ -46,7 +46,7 @@ export function saidRefusal({ code, details, text }, task = "") {
  * @param {number} code
  * @param {number[]} details
  */
-function formOf(code, [first]) {
+function ofGroups(code, [first]) {
   return code === Code.DIGEST_MISMATCH && first === OF_GROUPS ? ".groups" : "";
 }
 
@@ -71,7 +71,16 @@ export function saidForeign(error, repaired) {
   const { code } = error.refused;
   // These refusals, and those between them, are of papers that aren't of one backup.
   if (code < Code.OTHER_IDENTIFIER || code > Code.CONFLICTING_SHARE) return saidError(error);
-  return say("refused.repaired.one", { names: repaired[0] });
+  return saidRepaired(repaired);
+}
+
+/**
+ * Says that most likely papers are wrong of which words were found, since they can't be of one backup with the others.
+ *
+ * @param {string[]} repaired
+ */
+export function saidRepaired(repaired) {
+  return say(`refused.repaired.${formOf(repaired)}`, { names: repaired.join(", ") });
 }
 
 /**

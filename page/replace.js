@@ -5,6 +5,7 @@ import { drillWithPassphrase, saidLeftOut } from "./check_papers.js";
 import { Declined } from "./client.js";
 import { askForMore, collectPapers } from "./collect.js";
 import { BACK, choice, paragraph } from "./dom.js";
+import { mayDetermine, taskOf } from "./missing.js";
 import { planText, saidTakesAlone } from "./plan.js";
 import { saidError } from "./refusals.js";
 import { say } from "./say.js";
@@ -54,8 +55,6 @@ function tellNew() {
  * @returns {Promise<"end" | "back">}
  */
 async function replaceDestroyed(desk) {
-  /** @type {string[]} */
-  const written = [];
   for (;;) {
     setStep(2);
     const collected = await collectPapers(desk, { title: say("replace.title"), intro: say("replace.intro"), task: "replace" });
@@ -66,8 +65,8 @@ async function replaceDestroyed(desk) {
       if ((await tellFew(desk, status, kinds, key)) === "end") return "end";
       continue;
     }
-    const next = await writeMissing(desk, kinds[0], written);
-    if (next === "drill" && (await drillRest(desk, kinds[0], written)) === "end") return "end";
+    const next = await writeMissing(desk, kinds[0]);
+    if (next === "drill" && (await drillRest(desk)) === "end") return "end";
   }
 }
 
@@ -76,22 +75,30 @@ async function replaceDestroyed(desk) {
  *
  * @param {Desk} desk
  * @param {Kind} kind
- * @param {string[]} written the names of the papers that were written again, to which these are added
  * @returns {Promise<"papers" | "drill">}
  */
-async function writeMissing(desk, kind, written) {
+async function writeMissing(desk, kind) {
   let fault = "";
   for (;;) {
-    setStep(written.length ? 6 : 3);
+    const isWritten = areWritten(await desk.ask("kinds"));
+    setStep(isWritten ? 6 : 3);
     /** @type {Wanted | "papers" | "drill"} */
-    const wanted = await askWhich(await desk.ask("status"), kind, fault, written.length > 0);
+    const wanted = await askWhich(await desk.ask("status"), kind, fault, isWritten);
     if (typeof wanted === "string") return wanted;
     const found = await computed(desk, wanted);
     fault = found.fault;
     if (fault !== "") continue;
     await writeAndTypeBack(desk, { index: found.index, name: wanted.name, takes: takesOf(wanted) }, kind.words, 4);
-    if (!written.includes(wanted.name)) written.push(wanted.name);
   }
+}
+
+/**
+ * Whether any of these papers was written again.
+ *
+ * @param {Kind[]} kinds
+ */
+function areWritten(kinds) {
+  return kinds.some(({ isWritten }) => isWritten);
 }
 
 /**
@@ -106,18 +113,8 @@ async function computed(desk, { name, plan }) {
     return { index: await desk.ask("reissue", { plan: planText(plan), name }), fault: "" };
   } catch (error) {
     if (!(error instanceof Declined) || error.refused.code !== Code.UNDETERMINED) return { index: -1, fault: saidError(error) };
-    const task = plan.groups.length === 1 ? "only" : plan.needed === plan.groups.length ? "all" : "";
-    return { index: -1, fault: `${say("which.untold", { name })} ${saidError(error, task)}` };
+    return { index: -1, fault: `${say("which.untold", { name })} ${saidError(error, taskOf(plan))}` };
   }
-}
-
-/**
- * Whether papers may determine a missing one, whatever the plan is: they are enough, or a group of several is complete.
- *
- * @param {Status} status
- */
-function mayDetermine({ enough, groups }) {
-  return enough || groups.some(({ threshold, names }) => threshold > 1 && names.length >= threshold);
 }
 
 /**
@@ -127,11 +124,10 @@ function mayDetermine({ enough, groups }) {
  * @param {Status} status
  * @param {Kind[]} kinds
  * @param {string} key what too few papers mean here
- * @param {boolean} [isWritten] whether papers were written again
  */
-async function tellFew(desk, status, kinds, key, isWritten = false) {
+async function tellFew(desk, status, kinds, key) {
   const told = [paragraph(say(key), "note"), await saidLeftOut(desk)];
-  return askForMore(say(isWritten ? "replace.done" : "replace.few"), told, status, kinds, key === "replace.too_few" ? "" : "replace");
+  return askForMore(say(areWritten(kinds) ? "replace.done" : "replace.few"), told, status, kinds, key === "replace.too_few" ? "" : "replace");
 }
 
 /**
@@ -166,13 +162,11 @@ async function askWhy() {
  * Drills with all papers that were typed, if they are enough. Returns whether the owner wants to go back to the papers.
  *
  * @param {Desk} desk
- * @param {Kind} kind
- * @param {string[]} written the names of the papers that were written again
  */
-async function drillRest(desk, kind, written) {
+async function drillRest(desk) {
   setStep(7);
   const [status, kinds] = [await desk.ask("status"), await desk.ask("kinds")];
-  const what = { title: say("replace.drill"), passphrase: say("replace.passphrase"), steps: [7, 8], written };
-  if (status.enough) return drillWithPassphrase(desk, status, kind, what);
-  return tellFew(desk, status, kinds, "replace.too_few", written.length > 0);
+  const what = { title: say("replace.drill"), passphrase: say("replace.passphrase"), steps: [7, 8] };
+  if (status.enough) return drillWithPassphrase(desk, status, kinds, what);
+  return tellFew(desk, status, kinds, "replace.too_few");
 }

@@ -36,6 +36,16 @@ export function counted(n, noun) {
 }
 
 /**
+ * Returns the end of the key of a sentence that says something of one thing, or of many.
+ *
+ * @param {readonly unknown[]} things
+ * @returns {"one" | "many"}
+ */
+export function formOf(things) {
+  return things.length === 1 ? "one" : "many";
+}
+
+/**
  * Returns a time in words.
  *
  * @param {number} seconds

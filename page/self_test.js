@@ -90,6 +90,7 @@ function firstFailed(engine) {
   for (const [code, lines] of REFUSED) {
     if (refusalOf(() => engine.recover(lines, { passphrase: PASSPHRASE })) !== code) return `refuse ${code}`;
   }
+  if (!engine.judge([SOUND, TWO[0]], TWO[1]).status.enough || !engine.judge(TWO, TWO[1]).again) return "judge";
   if (engine.repair(SOUND.replace("agency", "?")).join("\n") !== SOUND) return "repair";
   if (refusalOf(() => engine.repair(SOUND.replace("agency", "zero"))) !== 18) return "refuse 18";
   const made = engine.create("2of3", ascending(0, 16), { passphrase: PASSPHRASE, exponent: 0, extendable: true, random: ascending(16, 14) });

@@ -76,13 +76,13 @@ export function typeBack(desk, { index, name, shown = name }, place, words) {
   return new Promise((resolve) => {
     const entry = new PaperEntry(desk.begun.words, words, async (line) => {
       try {
-        const { kind, isSame } = await desk.ask("typedBack", { index, line }, [line.buffer]);
+        const { kind, isSame, isForeign } = await desk.ask("typedBack", { index, line }, [line.buffer]);
         if (isSame) {
           tellNext(say("back.same", { name: shown }));
           resolve(true);
         }
         // Nothing of another paper can stay. The right one is told on the next screen.
-        return { isTaken: true, isFault: true, text: isSame ? "" : say(kind.name === name ? "back.foreign" : "back.other", { name: shown, typed: kind.name }) };
+        return { isTaken: true, isFault: true, text: isSame ? "" : say(isForeign ? "back.foreign" : "back.other", { name: shown, typed: kind.name }) };
       } catch (error) {
         return { isTaken: false, text: saidError(error, "back"), words: wordsToLookAt(error) };
       }

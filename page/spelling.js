@@ -15,12 +15,12 @@ export function wordsOf(text) {
 
 /**
  * Returns the marks of a text of a damaged paper: words, and question marks with the letters before them. A line that stands for what
- * can't be read is a question mark.
+ * can't be read is a question mark, and so are several of both.
  *
  * @param {string} text
  */
 export function marksOf(text) {
-  return separated(text.replace(/_+/g, "?"), /[^\p{L}\p{M}?]+/u);
+  return separated(text.replace(/[_?]+/g, "?"), /[^\p{L}\p{M}?]+/u);
 }
 
 /**
@@ -236,12 +236,13 @@ const BIP39_COUNTS = [12, 24];
 const BIP39_FOREIGN = 0.25;
 
 /**
- * Whether words are likely to be a BIP-39 backup.
+ * Whether words are likely to be a BIP-39 backup. Letters with which only one word of the list begins stand for that word.
  *
  * @param {readonly string[]} list
  * @param {readonly string[]} words
  */
 export function seemsBip39(list, words) {
-  const foreign = words.filter((word) => !word.endsWith("?") && !list.includes(word)).length;
+  const isForeign = (/** @type {string} */ word) => !word.endsWith("?") && !list.includes(word) && beginning(list, word).length !== 1;
+  const foreign = words.filter(isForeign).length;
   return BIP39_COUNTS.includes(words.length) && foreign >= BIP39_FOREIGN * words.length;
 }

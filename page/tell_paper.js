@@ -1,7 +1,7 @@
 // The task 'What is this paper?': one paper says what it is, without a passphrase and without other papers. The worker keeps nothing of it.
 import { BACK, button, element, paragraph } from "./dom.js";
 import { leaveEntry, PaperEntry, USUAL_WORDS } from "./paper_entry.js";
-import { saidTakesAlone } from "./plan.js";
+import { saidOthers, saidTakesAlone } from "./plan.js";
 import { saidError, wordsToLookAt } from "./refusals.js";
 import { counted, say } from "./say.js";
 import { show } from "./screen.js";
@@ -18,19 +18,6 @@ import { show } from "./screen.js";
  */
 export function tellPaper(desk) {
   return new Promise((resolve) => new Telling(desk, resolve).show());
-}
-
-/**
- * Says which other papers are needed besides this one.
- *
- * @param {Kind} kind
- */
-function saidOthers({ name, groupCount, groupThreshold, memberThreshold }) {
-  const [group, papers, groups] = [Number(name.split(".")[0]), counted(memberThreshold - 1, "paper"), counted(groupThreshold - 1, "whole")];
-  const isOnly = groupCount === 1;
-  if (memberThreshold === 1) return groupThreshold === 1 ? say("what.others.none") : say("what.others.groups", { groups });
-  if (groupThreshold > 1) return say("what.others.both", { papers, group, groups });
-  return isOnly ? say("what.others.papers", { papers }) : say("what.others.group", { papers, group });
 }
 
 /**

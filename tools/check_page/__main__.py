@@ -3,8 +3,9 @@
     python3 tools/check_page [--browser NAME] [--page FILE] [--cases N] [--faults] [--no-pictures] [PART..]
 
 PART is one of sources, tasks, journey, change, refusals, entry, astray, hasty, long, looks, agreement, privacy, ways and webkit; without one, all of them run.
-`agreement` compares N backups, 20 if it isn't given. The pictures of each screen go to page/out, which takes time. `--faults` plants faults in copies of the
-sources instead, and checks that each is found. The status is 1 if something fails.
+`sources` also compares what the page decides with tools/decisions.json, and `agreement` compares N backups, 20 if it isn't given. The pictures
+of each screen go to page/out, which takes time. `--faults` plants faults in copies of the sources instead, and checks that each is found. The
+status is 1 if something fails.
 If a browser, or what the page is built with, isn't installed, its parts are left out. A part that fails beside others
 is tried once more, by itself.
 """
@@ -26,6 +27,7 @@ import astray  # noqa: E402
 import browsers  # noqa: E402
 import change  # noqa: E402
 import choices  # noqa: E402
+import decisions  # noqa: E402
 import entry  # noqa: E402
 import faults  # noqa: E402
 import forms  # noqa: E402
@@ -139,7 +141,7 @@ def checked(given):
     if given.faults:
         return 0 if tried("chromium", "faults", lambda: faults.check(ROOT / "shamir32.wasm", lambda text: print(text, flush=True))) else 1
     wanted = given.parts
-    passed = [tried("page", "sources", lambda: (sources.check(ROOT / "page"), sources.check_types(ROOT / "page")))] if "sources" in wanted else []
+    passed = [tried("page", "sources", lambda: (sources.check(ROOT / "page"), sources.check_types(ROOT / "page"), decisions.check()))] if "sources" in wanted else []
     modules = [ROOT / "shamir32.wasm", ROOT / "shamir.wasm"]
     url = given.page.resolve().as_uri()
     jobs = [(name, part, check) for name in given.browser for part, check in parts_of(name, url, modules, given.cases).items() if part in wanted]

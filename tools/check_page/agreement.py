@@ -6,7 +6,7 @@ import subprocess
 import tempfile
 
 from browsers import Failed
-from tasks import ROOT, THREE_GROUPS
+from tasks import ROOT, SOUND_PAPER, THREE_GROUPS
 from texts import say
 
 CASES = 20
@@ -93,7 +93,7 @@ def check_batch(page, modules, cases):
 # Runs the page's worker as the page does, and looks at what it leaves: the module's memory outside its constants, and each array
 # that the worker was given or that it kept.
 WATCHER = """
-const watched = { memories: [], arrays: [] };
+const watched = { memories: [], arrays: new Set() };
 const Whole = WebAssembly.Instance;
 WebAssembly.Instance = function (...given) { const it = new Whole(...given); watched.memories.push(it.exports); return it; };
 for (const name of ["instantiate"]) {
@@ -103,9 +103,23 @@ for (const name of ["instantiate"]) {
 """
 LOOKER = """
 const answering = self.onmessage;
+const arraysIn = (it) => (it instanceof Uint8Array ? [it] : typeof it === "object" && it ? Object.values(it).flatMap(arraysIn) : []);
+const watch = (it) => arraysIn(it).filter(({ length }) => length < 100000).forEach((array) => watched.arrays.add(array));
+const { choose, moveOut } = in_backups.Backups.prototype;
+let backups = null;
+in_backups.Backups.prototype.choose = function (id) {
+  backups = this;
+  choose.call(this, id);
+};
+in_backups.Backups.prototype.moveOut = function () {
+  const moved = moveOut.call(this);
+  watch(moved);
+  return moved;
+};
 self.onmessage = (event) => {
   if (event.data.call !== "look") {
-    for (const it of Object.values(event.data.given)) if (it instanceof Uint8Array && it.length < 100000) watched.arrays.push(it);
+    watch(event.data.given);
+    watch(backups?.kept);
     answering(event);
     return;
   }
@@ -115,8 +129,8 @@ self.onmessage = (event) => {
     const used = (it) => it.reduce((sum, byte) => sum + (byte ? 1 : 0), 0);
     return used(all.subarray(0, 524288)) + used(all.subarray(base));
   });
-  const arrays = watched.arrays.filter((it) => it.some((byte) => byte)).length;
-  self.postMessage({ id: event.data.id, value: { left, arrays, count: watched.arrays.length } });
+  const arrays = [...watched.arrays].filter((it) => it.some((byte) => byte)).length;
+  self.postMessage({ id: event.data.id, value: { left, arrays, count: watched.arrays.size } });
 };
 """
 LOOK = """
@@ -143,8 +157,10 @@ LOOK = """
   await ask("begin", { module, kept: null });
   await ask("tryPassphrase", { passphrase: bytes("TREZOR") });
   await ask("passphrase", { passphrase: bytes("TREZOR") });
+  await ask("add", { line: bytes(given.other) });
   for (const line of given.lines) await ask("add", { line: bytes(line) });
-  await ask("add", { line: bytes(given.lines[0]) });
+  const { id } = (await ask("add", { line: bytes(given.lines[0]) })).kind;
+  await ask("choose", { id });
   await ask("add", { line: bytes(given.lines[0] + " acid") }).catch(() => 0);
   await ask("leaveOut", { line: bytes(given.lines[1]) });
   await ask("drill", { limit: 0, expect: "" });
@@ -163,9 +179,9 @@ LOOK = """
   await ask("repair", { line: bytes(given.lines[0].replace(/\\S+ \\S+ \\S+/, "? ? ?")) });
   await ask("typedBack", { index: 1, line: bytes(given.lines[0]) });
   for (const digits of ["00112233445566778899aabbccddeeff", "wrong"]) await ask("judge", { plan: "2of3", digits: bytes(digits), noted: "01234567" });
-  await ask("drop", { name: "1.0" });
+  await ask("drop", { id, name: "1.0" });
   await ask("putBack");
-  await ask("drop", { name: "0.0" });
+  await ask("drop", { id, name: "0.0" });
   for (const noted of ["01234567", ""]) await ask("renew", { plan: "2of2", noted, extendable: true });
   await ask("drill", { limit: 0, expect: "", isOld: true });
   const typeBack = async (index) => ask("typedBack", { index, line: await ask("paper", { index }) });
@@ -182,12 +198,12 @@ LOOK = """
 
 def check_memory(page):
     """Looks at the memory that the page's worker leaves after 'clear'."""
-    given = {"watcher": WATCHER, "looker": LOOKER, "lines": THREE_GROUPS}
+    given = {"watcher": WATCHER, "looker": LOOKER, "lines": THREE_GROUPS, "other": SOUND_PAPER}
     found = json.loads(page.evaluate(LOOK % json.dumps(given)))
     if not found["left"]:
         raise Failed("the memory of the module wasn't seen")
     if any(found["left"]):
         raise Failed(f"the module's memory isn't cleared: {found['left']} bytes are left")
-    if found["count"] < 12 or found["arrays"]:
+    if found["count"] < 30 or found["arrays"]:
         raise Failed(f"{found['arrays']} of {found['count']} arrays that the worker was given aren't cleared")
     page.wait_title(say("home.title"))

@@ -1,8 +1,9 @@
 """Where an owner who reads only the screen could go astray: papers that don't work, results that say too much, and what may be destroyed."""
 from browsers import Failed
 from entry import with_words as of_sound
+from looks import check_screen
 from refusals import changed, paste
-from tasks import FINGERPRINT, PASSPHRASE, SOUND_PAPER, THREE_GROUPS, answer_passphrase, begin, end, fingerprint_of, found_words, plain, read_paper, type_damaged, type_paper
+from tasks import FINGERPRINT, PASSPHRASE, SOUND_PAPER, THREE_GROUPS, answer_passphrase, begin, end, example, fingerprint_of, found_words, plain, read_paper, type_damaged, type_paper
 from texts import counted, say
 
 
@@ -82,15 +83,15 @@ def check_left_out(page, see):
     end(page)
     begin(page, "recover")
     take(page, papers[:1])
-    paste(page, SOUND_PAPER)
-    page.wait_text(say("refused.21"))
+    paste(page, changed(papers[1], exponent=3))
+    page.wait_text(say("refused.23"))
     page.push(say("entry.empty"))
     page.go_to("textbox", say("entry.word", number=1))
-    page.type(" ".join(papers[1].split()[:12]) + " ")
+    page.type(" ".join(papers[2].split()[:12]) + " ")
     page.push(say("collect.end"))
     page.push(say("collect.unread.drop"))
     page.wait_title(say("recover.few"))
-    for text in (counted(1, "left"), say("left.sound.one", names="0.0")):
+    for text in (counted(1, "left"), say("left.sound.one", names="0.1")):
         page.wait_text(text)
     end(page)
 
@@ -148,16 +149,9 @@ def check_repaired(page, see):
 
 
 def repair(page, line):
-    """Reads a damaged paper of which one word is open, writes it anew, and types it back."""
-    name = name_of(line)
+    """Begins to read a damaged paper."""
     begin(page, "damaged")
-    paste(page, with_words(line, {6: "?"}))
-    page.push(say("damaged.write", name=name))
-    page.wait_title(say("paper.title", name=name))
-    page.push(say("paper.written"))
-    page.wait_title(say("back.title", name=name))
-    paste(page, line)
-    page.wait_title(say("damaged.check.title"))
+    find_word(page, line)
 
 
 def check_untried(page, see):
@@ -230,17 +224,13 @@ def check_lost(page, see):
 
 
 def check_without(page, see):
-    """A passphrase that wasn't typed isn't said to be mistyped. A paper of another backup is known by its first words."""
+    """A passphrase that wasn't typed isn't said to be mistyped."""
     for task, title, text in [
         ("check", "check.done.other.none", "the backup most likely has a passphrase, and you typed none."),
         ("recover", "recover.done.other", "the backup most likely has a passphrase: try again, and type it."),
     ]:
         begin(page, task)
-        take(page, THREE_GROUPS[:1])
-        paste(page, SOUND_PAPER)
-        page.wait_text("its first 2 words differ")
-        page.push(say("entry.empty"))
-        take(page, THREE_GROUPS[1:4])
+        take(page, THREE_GROUPS[:4])
         page.push(say("collect.end"))
         answer_passphrase(page, None, FINGERPRINT)
         if task == "check":
@@ -252,4 +242,122 @@ def check_without(page, see):
         end(page)
 
 
-CHECKS = [check_left_out, check_impossible, check_repaired, check_untried, check_lost, check_without]
+def begin_of(line):
+    return " ".join(line.split()[:2])
+
+
+def check_apart(page, see):
+    """Papers of several backups are kept apart, also if the first one is the wrong one. The owner goes on with those of one, and the result
+    tells of the others."""
+    two = example("two-needed.txt")
+    own, other, third = map(begin_of, (THREE_GROUPS[0], SOUND_PAPER, two[0]))
+    begin(page, "check")
+    take(page, [SOUND_PAPER])
+    paste(page, THREE_GROUPS[0])
+    page.wait_text(say("collect.taken.apart", name="0.0", begin=own))
+    page.wait_text(say("collect.apart", count=2))
+    silent(page, say("collect.end"))
+    see("the first paper of another backup")
+    for line in THREE_GROUPS[1:4]:
+        paste(page, line)
+        page.wait_text(say("collect.taken.of", name=name_of(line), begin=own))
+    paste(page, SOUND_PAPER)
+    page.wait_text(say("collect.repeated", name="0.0"))
+    paste(page, two[0])
+    page.wait_text(say("collect.taken.apart", name=name_of(two[0]), begin=third))
+    page.wait_text(say("collect.apart", count=3))
+    paste(page, changed(THREE_GROUPS[4], exponent=3))
+    page.wait_text(say("refused.23"))
+    page.push(say("entry.empty"))
+    check_screen(page, "papers of three backups", see)
+    # Papers of two backups have one name. Only the one that is meant is taken out, and comes back.
+    page.push(say("collect.drop.of", name="0.0", begin=own))
+    page.wait_text(say("collect.dropped", name="0.0"))
+    page.wait(lambda: page.text().count(say("collect.row", name="0.0", words=20)) == 1, "the other paper of this name")
+    page.push(say("collect.undo", name="0.0"))
+    page.wait_text(say("collect.undone", name="0.0"))
+    page.push(say("collect.end.of", begin=own))
+    answer_passphrase(page, PASSPHRASE, FINGERPRINT)
+    page.push(say("drill.start"))
+    page.wait_title(say("check.done.left_out"))
+    page.wait_text(say("verdict.all.noted", quorums=counted(3, "quorum"), fingerprint=FINGERPRINT))
+    for text in (say("left.backup.one", names="0.0", begin=other), say("left.backup.one", names=name_of(two[0]), begin=third), say("left.sound.one", names="2.0")):
+        page.wait_text(text)
+    see("a result beside papers of other backups")
+    page.push(say("collect.back"))
+    page.wait_text(say("collect.apart", count=3))
+    page.push(say("collect.drop.of", name=name_of(two[0]), begin=third))
+    page.wait_text(say("collect.apart", count=2))
+    page.push(say("collect.drop.of", name="0.0", begin=other))
+    page.wait(lambda: say("status.backup", begin=own) not in page.text(), "the papers of one backup, as they are without others")
+    page.push(say("collect.end"))
+    page.wait_title(say("check.passphrase"))
+    clear(page)
+    # The backup that is chosen is the one that is too few.
+    begin(page, "recover")
+    take(page, two[:1])
+    paste(page, SOUND_PAPER)
+    page.wait_text(say("collect.taken.apart", name="0.0", begin=other))
+    page.push(say("collect.end.of", begin=third))
+    page.wait_title(say("recover.few"))
+    page.wait_text(say("left.backup.one", names="0.0", begin=other))
+    page.push(say("collect.more"))
+    page.push(say("collect.end.of", begin=other))
+    answer_passphrase(page, PASSPHRASE, FINGERPRINT)
+    page.wait_title(say("recover.done.same"))
+    end(page)
+
+
+def find_word(page, line):
+    """Types what can be read of a paper of which one word is open, writes it anew, and types it back."""
+    name = name_of(line)
+    page.wait_title(say("damaged.title"))
+    paste(page, with_words(line, {6: "?"}))
+    page.push(say("damaged.write", name=name))
+    page.wait_title(say("paper.title", name=name))
+    page.push(say("paper.written"))
+    page.wait_title(say("back.title", name=name))
+    paste(page, line)
+    page.wait_title(say("damaged.check.title"))
+
+
+def check_several_repaired(page, see):
+    """Several damaged papers of a backup: each is blamed or called right by what the drill shows of it. One that can't be of their backup isn't
+    offered, and one of another backup is told."""
+    papers = papers_of("2of3")
+    noted, wrong = fingerprint_of(papers[:2], ""), changed(papers[2], value=bytes(16))
+    for third, title, texts in [
+        (papers[2], "check.done.good", [say("damaged.right.many", names="0.1, 0.2")]),
+        (wrong, "check.done.some", [say("damaged.suspect.one", names="0.2"), say("damaged.keep")]),
+    ]:
+        begin(page, "damaged")
+        find_word(page, papers[1])
+        page.push(say("damaged.another"))
+        find_word(page, third)
+        page.wait_text(say("collect.row.repaired", name="0.1", words=20))
+        page.wait_text(say("collect.row.repaired", name="0.2", words=20))
+        take(page, papers[:1])
+        page.push(say("damaged.another"))
+        page.wait_title(say("damaged.title"))
+        paste(page, with_words(changed(papers[2], exponent=3), {6: "?"}))
+        page.wait_text(say("damaged.apart", name="0.2"))
+        silent(page, say("damaged.write", name="0.2"))
+        see("a damaged paper that can't be of the others' backup")
+        page.push(say("back"))
+        page.push(say("entry.lost.go"))
+        page.wait_title(say("damaged.check.title"))
+        paste(page, SOUND_PAPER)
+        page.wait_text(f"{say('collect.taken.apart', name='0.0', begin=begin_of(SOUND_PAPER))} {say('refused.repaired.many', names='0.1, 0.2')}")
+        page.push(say("collect.drop.of", name="0.0", begin=begin_of(SOUND_PAPER)))
+        see("several repaired papers")
+        page.push(say("collect.end"))
+        answer_passphrase(page, None, noted)
+        page.push(say("drill.start"))
+        page.wait_title(say(title))
+        for text in texts:
+            page.wait_text(text)
+        see(f"what a drill shows of several repaired papers {title}")
+        end(page)
+
+
+CHECKS = [check_apart, check_several_repaired, check_left_out, check_impossible, check_repaired, check_untried, check_lost, check_without]

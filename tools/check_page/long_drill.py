@@ -49,7 +49,7 @@ def check_big(page, see):
 def check_most(page, _):
     """The engine counts no further than 2^64 - 1."""
     for number, text in ((2**64 - 1, say("number.least", number=f"{2**64 - 1:,}")), (2**64 - 2, f"{2**64 - 2:,}")):
-        told = page.evaluate(f"in_drill.saidCount({{ quorums: {number}n }}).textContent")
+        told = page.evaluate(f"in_verdict.saidCount({number}n)")
         if told != say("drill.count_part", total=text, first=f"{FIRST:,}"):
             raise Failed(f"of {number} quorums the page says {told!r}")
 

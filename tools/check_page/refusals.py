@@ -33,7 +33,6 @@ def of_one_paper():
         ("two words that changed places", EXCHANGED, said(13)),
         ("bad padding", BAD_PADDING, said(14)),
         ("too many groups needed", changed(first, group_threshold=16), said(15)),
-        ("another backup", SOUND, said(21)),
         ("another flag", changed(first, extendable=1), said(22)),
         ("another exponent", changed(first, exponent=3), said(23)),
         ("another number of needed groups", changed(first, group_threshold=1), said(24)),
@@ -52,14 +51,11 @@ def check_papers(page, see):
     for what, line, text in of_one_paper():
         type_paper(page, line, is_by_four=True)
         page.wait_text(text)
-        if what in ("another backup", "another wrong word"):
-            see(what)
-        if what == "another wrong word" and not page.has_focus(page.node("textbox", say("entry.word", number=7))):
-            raise Failed("the focus doesn't go to the wrong word")
         if what == "another wrong word":
-            page.type("leng")
-            page.wait_text(said(21))
-        page.push(say("entry.empty"))
+            see(what)
+            check_wrong_word(page)
+        else:
+            page.push(say("entry.empty"))
     if len(page.text().split(": sound")) != 2:
         raise Failed("a refused paper was taken")
     page.push(say("collect.end"))
@@ -75,6 +71,17 @@ def check_papers(page, see):
         raise Failed("a paper that was taken out is still said to be sound")
     page.push(say("clear"))
     page.wait_title(say("home.title"))
+
+
+def check_wrong_word(page):
+    """The focus goes to the wrong word, and the paper is read again as soon as it is right. It is of another backup."""
+    if not page.has_focus(page.node("textbox", say("entry.word", number=7))):
+        raise Failed("the focus doesn't go to the wrong word")
+    page.type("leng")
+    begin_of = " ".join(SOUND.split()[:2])
+    page.wait_text(say("collect.taken.apart", name="0.0", begin=begin_of))
+    page.push(say("collect.drop.of", name="0.0", begin=begin_of))
+    page.wait_text(say("collect.dropped", name="0.0"))
 
 
 def check_words(page, see):

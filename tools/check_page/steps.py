@@ -1,6 +1,6 @@
 """The ways back, what Enter does in a field that isn't a word's, and the questions for the plan of papers."""
 from browsers import Failed
-from refusals import paste, said
+from refusals import paste
 from tasks import FINGERPRINT, PASSPHRASE, SOUND_PAPER, THREE_GROUPS, begin, choose_wallet, create, example, plain, read_paper
 from texts import counted, say
 
@@ -112,16 +112,14 @@ def check_which(page, see):
     page.push(say("which.write"))
     page.wait_text(say("which.missing"))
     page.choose(say("which.other"))
-    for typed, text in [("x", say("which.name.wrong")), ("0.2", say("which.here", name="0.2")), ("0.02", say("which.here", name="0.2")), ("1.1", say("which.only", group=1)), ("0.16", say("which.name.wrong")), ("3.0", said(64, first=3, second=0))]:
-        # After a refusal of the engine, the screen is a new one.
-        page.choose(say("which.other"))
+    for typed, text in [("x", say("which.name.wrong")), ("0.2", say("which.here", name="0.2")), ("0.02", say("which.here", name="0.2")), ("1.1", say("which.only", group=1)), ("0.16", say("which.name.wrong")), ("2", say("which.name.wrong")), ("3.0", say("which.beyond", groups=counted(3, "group")))]:
         page.go_to("textbox", say("which.name"))
         page.evaluate("document.activeElement.select()")
         page.type(typed)
         page.push(say("which.write"))
         page.wait_text(text)
-    page.choose(say("which.other"))
     page.go_to("textbox", say("which.name"))
+    page.evaluate("document.activeElement.select()")
     page.type("2.0")
     for needed in ("", "0", "17"):
         page.go_to("spinbutton", say("which.needed"))

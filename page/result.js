@@ -1,0 +1,89 @@
+// What a drill shows of the papers that were typed, and what an owner does next.
+import { formOf } from "./say.js";
+
+/** @typedef {import("./verdict.js").Verdict} Verdict */
+/** @typedef {"end" | "again" | "papers"} Next to end, to try again with the same papers, or to go back to the papers */
+/** @typedef {{key: string, names: string[], kind: "note" | "good" | "bad" | ""}} Told the key of a sentence, the papers that it names, and how it looks */
+/**
+ * The papers: the names of all that are here, of those of which words were found and not read, and of those that were written again from
+ * others; and whether any paper was left out.
+ *
+ * @typedef {{here: string[], repaired: string[], written: string[], isLeft: boolean}} Papers
+ */
+
+/** @type {Record<Verdict["result"], Next>} */
+const NEXT = { good: "end", stopped: "again", other: "again", none: "again", some: "papers", several: "papers" };
+
+/**
+ * Makes a sentence, unless it would name nothing.
+ *
+ * @param {string} key
+ * @param {string[]} names
+ * @param {Told["kind"]} kind
+ * @returns {Told[]}
+ */
+function naming(key, names, kind) {
+  return names.length ? [{ key, names, kind }] : [];
+}
+
+/**
+ * Makes a sentence of one paper, or of many, unless it would name nothing.
+ *
+ * @param {string} key
+ * @param {string[]} names
+ * @param {Told["kind"]} kind
+ */
+function form(key, names, kind) {
+  return naming(`${key}.${formOf(names)}`, names, kind);
+}
+
+/**
+ * Returns what a drill shows of papers. Only the noted fingerprint shows that papers are right.
+ *
+ * @param {Pick<Verdict, "result" | "names" | "right" | "hasPassphrase">} verdict
+ * @param {boolean} isNoted whether a fingerprint was noted
+ * @param {Papers} papers
+ */
+export function resultOf(verdict, isNoted, { here, repaired, written, isLeft }) {
+  const { result, names } = verdict;
+  const isTried = (/** @type {string} */ name) => names.includes(name);
+  const others = names.length > 0 && result !== "stopped" ? here.filter((name) => !isTried(name)) : [];
+  const again = result === "good" ? written.filter(isTried) : [];
+  return {
+    title: `check.done.${titleOf(verdict, isNoted, isLeft || others.length > 0, again.length > 0)}`,
+    next: NEXT[result],
+    tried: [...naming("verdict.papers", here.filter(isTried), ""), ...naming("verdict.papers.none", others, "")],
+    anew: [...ofRepaired(verdict, isNoted, repaired), ...form(isNoted ? "replace.right" : "replace.tried", again, isNoted ? "good" : "note")],
+  };
+}
+
+/**
+ * Returns the end of the key of the heading.
+ *
+ * @param {Pick<Verdict, "result" | "hasPassphrase">} verdict
+ * @param {boolean} isNoted
+ * @param {boolean} isUntried whether not all papers were tried
+ * @param {boolean} isWritten whether papers that were tried were written again
+ */
+function titleOf({ result, hasPassphrase }, isNoted, isUntried, isWritten) {
+  if (result !== "good") return result === "other" && !hasPassphrase ? "other.none" : result;
+  // Without a noted fingerprint, no result is known to be good.
+  if (!isNoted) return "same";
+  return isUntried ? "left_out" : isWritten ? "written" : "good";
+}
+
+/**
+ * Says what a drill shows of repaired papers. Only a quorum that has one, and that gives the noted fingerprint, shows that its words are
+ * right.
+ *
+ * @param {Pick<Verdict, "result" | "names" | "right">} verdict
+ * @param {boolean} isNoted
+ * @param {string[]} repaired
+ */
+function ofRepaired({ result, names, right }, isNoted, repaired) {
+  const tried = repaired.filter((name) => names.includes(name));
+  const proved = result === "good" && isNoted ? tried : [];
+  const suspect = ["none", "some"].includes(result) ? tried.filter((name) => !right.includes(name)) : [];
+  const kept = /** @type {Told[]} */ (proved.length < repaired.length ? [{ key: "damaged.keep", names: [], kind: "note" }] : []);
+  return [...form("damaged.right", proved, "good"), ...form("damaged.suspect", suspect, "bad"), ...kept];
+}
