@@ -4,7 +4,7 @@ from refusals import end_by_keys, rows_of, started, word_prompt
 from slips import papers_of
 from tasks import SIGN, SOUND_PAPER, Owner, name_of, paper_prompt
 
-from shamir.papers.entry import said_count
+from shamir.papers.marks import said_count
 
 # As many papers as fit no screen.
 MANY = "16/" + ",".join(["2of3"] * 16)

@@ -3,7 +3,7 @@ from hands import Failed, counted, say
 from tasks import FINGERPRINT, PASSPHRASE, SIGN, SOUND_PAPER, THREE_GROUPS, Owner, example, fingerprint_of, name_of, paper_prompt
 
 import plain
-from shamir.papers.entry import said_count
+from shamir.papers.marks import said_count
 
 TWO = example("two-needed.txt")
 # Published vectors of SLIP-0039. In the first, word 20 is wrong.
