@@ -5,7 +5,7 @@ is typed, and what was typed stays: what has no place stands again behind the qu
 """
 from __future__ import annotations
 
-from typing import Callable, Dict, List, Optional, Sequence, Tuple
+from typing import Callable, Dict, List, Optional, Sequence
 
 import shamir
 from shamir.papers.desk import Paper, resembles
