@@ -42,6 +42,8 @@ ANSWERS = [
     (r"1 to 16; b", ["0", "1", "2", "3", "5", "16"]),
     (r"The missing paper, such as", ["0.0", "0.1", "0.2", "1.0", "2", "d", "b"]),
     (r"d: try the papers together\. b", ["d", "b"]),
+    (r"The number of a backup \(b", ["1", "1", "2", "3", "b"]),
+    (r"is to be taken out \(0", ["0", "1", "2"]),
     (r"c: change the plan now", ["c", "c", "e", "b"]),
     (r"(Word \d+|Number and word|are missing)", ["?", "acid", "7 acid", "-", "", "", "12"]),
     (r"", ["", "", "e", "p", "t", "c", "w", "1", "check", "replace", "change"]),
@@ -49,13 +51,15 @@ ANSWERS = [
 
 
 class Guessed(KeysAside):
-    """A terminal at which an owner answers up to so many questions, and then closes it. The owner knows the papers of one backup, and
-    those that were shown."""
+    """A terminal at which an owner answers up to so many questions, and then closes it. The owner knows the papers of one backup, or of a
+    few, and those that were shown."""
 
     def __init__(self, chance, count):
         super().__init__([])
         self.chance, self.count, self.is_careful = chance, count, chance.random() < 0.7
-        self.papers, self.written, self.noted = [*chance.choice(BACKUPS)], {}, ""
+        self.papers = [line for lines in chance.sample(BACKUPS, chance.choice([1, 1, 1, 2, 3])) for line in lines]
+        chance.shuffle(self.papers)
+        self.written, self.noted = {}, ""
         self.passphrase = ""
         self.columns = chance.choice([20, 40, 80])
 
