@@ -16,7 +16,10 @@ if sys.version_info < (3, 10):
 import shamir  # noqa: E402
 from shamir.papers import check, desk, drill, found, plan, quorums, refusals, replace, secret, spelling, standing, texts, what, which  # noqa: E402
 
-CASES = json.loads((ROOT / "tools" / "decisions.json").read_text("utf-8"))
+TABLE = ROOT / "tools" / "decisions.json"
+if not TABLE.exists():
+    raise unittest.SkipTest("the table of decisions is only in the repository")
+CASES = json.loads(TABLE.read_text("utf-8"))
 # A terminal has no table of quorums, so it names the wrong ones, and one for each secret.
 OF_A_TERMINAL = ("verdict.wrong.", "verdict.gave")
 # What a result says of the papers.
