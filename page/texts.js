@@ -148,7 +148,7 @@ export const TEXTS = {
   "collect.taken.of": "Paper {name} is sound. It is one of the papers that begin with '{begin}'.",
   "collect.apart": "These papers are of {count} backups: all papers of one backup begin with the same 2 words. So they are kept apart. When you have typed all of them, you choose one backup.",
   "collect.end.of": "Go on with the papers that begin with '{begin}'",
-  "collect.drop.of": "Take {name} of '{begin}' out",
+  "collect.drop.of": "Take {name} out: papers that begin with '{begin}'",
   "collect.dropped": "Paper {name} is taken out. If it stood here wrongly, type it again.",
   "collect.undo": "Put {name} back",
   "collect.undone": "Paper {name} is back.",
