@@ -152,7 +152,6 @@ def check_found():
         owner.type_paper(paper_prompt(3), elsewhere[1])
         owner.wait(paper_prompt(4))
         owner.expect(say("collect.apart", count=2))
-        silent(owner, say("refused.repaired.one", names="0.0"))
         end_by_keys(owner)
 
 

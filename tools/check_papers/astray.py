@@ -5,7 +5,7 @@ import os
 from hands import END, Failed, counted, say
 from refusals import NUMBERED, changed, end_by_keys, started, word_prompt
 from slips import papers_of, sure
-from tasks import FINGERPRINT, PASSPHRASE, SIGN, SOUND_PAPER, THREE_GROUPS, Owner, fingerprint_of, name_of, paper_prompt
+from tasks import FINGERPRINT, PASSPHRASE, SECRET, SIGN, SOUND_PAPER, THREE_GROUPS, Owner, fingerprint_of, name_of, paper_prompt
 
 PLAN = "2/3of5,1of1"
 
@@ -74,7 +74,7 @@ def check_refused():
     with started("check") as owner:
         owner.collect([THREE_GROUPS[3]])
         owner.answer(say("more.papers"), "")
-        owner.type_paper(paper_prompt(2), changed(THREE_GROUPS[3], value=bytes(16)))
+        owner.type_paper(paper_prompt(2), changed(THREE_GROUPS[3], value=bytes.fromhex(SECRET)))
         owner.type_paper(paper_prompt(2), THREE_GROUPS[4])
         owner.reply(paper_prompt(3), "")
         owner.passphrase(PASSPHRASE, FINGERPRINT)

@@ -137,8 +137,8 @@ def tell_damaged(screen: Screen, desk: Desk) -> None:
 def tell_left_out(screen: Screen, desk: Desk) -> None:
     """Reminds the owner of the papers that were begun, and that aren't among the others."""
     for papers in desk.others:
-        names = ", ".join(paper.name for paper in papers)
-        screen.tell(say(f"left.backup.{one_or_many(papers)}", names=names, begin=papers[0].opening))
+        apart = ", ".join(paper.name for paper in papers)
+        screen.tell(say(f"left.backup.{one_or_many(papers)}", names=apart, begin=papers[0].opening))
     left = desk.left_out
     names = [name for name in map(_name_of, left) if name]
     if len(names) < len(left):

@@ -143,7 +143,7 @@ def _far(letters: str, word: str) -> float:
 
 def distance(one: str, other: str) -> int:
     """Returns how many letters must be added, left out, changed or exchanged with their neighbour to turn one word into the other."""
-    rows = [[*range(len(other) + 1)]]
+    rows: List[List[int]] = [[*range(len(other) + 1)]]
     for i, letter in enumerate(one, 1):
         row = [i]
         for j, its in enumerate(other, 1):
