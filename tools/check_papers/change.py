@@ -101,6 +101,8 @@ def check_refused():
         owner.wait(say("more.papers"))
         owner.expect(say("recover.too_few"))
         owner.answer(say("more.papers"), "")
+        owner.answer(paper_prompt(3), f"{SIGN}0.0")
+        owner.answer(say("entry.drop.which", name="0.0"), "2")
         owner.type_paper(paper_prompt(2), changed(old[1], value=value[::-1]))
         owner.type_paper(paper_prompt(3), old[2])
         owner.answer(paper_prompt(4), "")

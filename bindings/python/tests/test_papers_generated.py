@@ -22,6 +22,8 @@ from shamir.papers.terminal import Ended, Resized  # noqa: E402
 from test_papers_keys import KeysAside  # noqa: E402
 
 SESSIONS = 200
+# In each session of so many, the owner has papers of several backups.
+MIXED = 8
 WORDS = shamir.words("")
 PLANS = [("2of3", False), ("2of3", True), ("3of5", True), ("1/1of1,2of3", False)]
 BACKUPS = [[ONE], TWO, FIVE, *(shamir.create(plan, bytes(16), extendable=flag, random=bytes(shamir.random_needed(plan, 16))) for plan, flag in PLANS)]
@@ -57,15 +59,18 @@ class Guessed(KeysAside):
     def __init__(self, chance, count):
         super().__init__([])
         self.chance, self.count, self.is_careful = chance, count, chance.random() < 0.7
-        self.papers = [line for lines in chance.sample(BACKUPS, chance.choice([1, 1, 1, 2, 3])) for line in lines]
-        chance.shuffle(self.papers)
-        self.written, self.noted = {}, ""
+        self.papers, self.written, self.noted = [*chance.choice(BACKUPS)], {}, ""
         self.passphrase = ""
         self.columns = chance.choice([20, 40, 80])
 
     @property
     def size(self):
         return type("Size", (), {"columns": self.columns, "lines": 24})
+
+    def mix(self):
+        """Gives the owner papers of a few backups, in no order."""
+        self.papers = [line for lines in self.chance.sample(BACKUPS, 3) for line in lines]
+        self.chance.shuffle(self.papers)
 
     def clear(self):
         self.shown = ""
@@ -139,6 +144,8 @@ class GeneratedTests(unittest.TestCase):
         for number in range(SESSIONS):
             chance = random.Random(number)
             desk, terminal = Desk(), Guessed(chance, chance.choice([10, 30, 100]))
+            if number % MIXED == 0:
+                terminal.mix()
             with self.subTest(session=number):
                 try:
                     run(Screen(terminal), desk, chance.choice([None, "new", "replace", "change", *RUN]), None)
