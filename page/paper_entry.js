@@ -35,6 +35,10 @@ export class PaperEntry {
   #count = labelled(say("entry.count"), "number", {
     attributes: { min: "1", max: String(COUNT_MAX), class: "count", change: () => this.#counted() },
   });
+  // The question for the number of words. It isn't asked while the fields are as many as the paper is known to have.
+  #counts = element("div", { class: "counts" }, this.#count.box);
+  /** @type {number | null} */
+  #known = null;
   #isAsked = false;
   #restoring = button(say("entry.undo"), () => this.#restored(), "hide");
   // The words that were emptied last, until something else is typed.
@@ -49,22 +53,25 @@ export class PaperEntry {
    * @param {(line: Uint8Array) => Promise<Answer>} onPaper takes the bytes of a paper over, and answers
    * @param {(() => void) | null} [onChange] only for a damaged paper, in which a question mark may stand for letters: it is called
    *   when a field changes
+   * @param {boolean} [isKnown] whether the paper is known to have so many words
    */
-  constructor(list, count, onPaper, onChange = null) {
+  constructor(list, count, onPaper, onChange = null, isKnown = false) {
     this.#list = list;
     this.#onPaper = onPaper;
     this.#onChange = onChange;
+    this.#known = isKnown ? count : null;
     const quick = USUAL_WORDS.map((it) => button(say("entry.words", { count: it }), () => this.setCount(it), "small"));
     this.element = element(
       "div",
       { class: "entry" },
       element("p", { class: "hint" }, say(onChange ? "damaged.hint" : "entry.hint")),
-      element("div", { class: "counts" }, this.#count.box, ...quick),
+      this.#counts,
       this.#answer,
       this.below,
       this.#grid,
       element("div", { class: "buttons" }, this.#reading, button(say("entry.empty"), () => this.#emptied()), this.#restoring),
     );
+    this.#counts.append(...quick);
     // Before the field itself hears of it, since the field may ask for a new answer.
     this.element.addEventListener("input", () => this.#changed(), true);
     this.setCount(count);
@@ -131,6 +138,7 @@ export class PaperEntry {
     // The words run down two columns, as on the forms.
     this.#grid.style.setProperty("--rows", String(Math.ceil(count / 2)));
     this.#count.field.value = String(count);
+    this.#counts.hidden = count === this.#known;
     this.#changed();
   }
 
@@ -140,8 +148,9 @@ export class PaperEntry {
     else this.#count.field.value = String(this.count);
   }
 
-  /** Empties the fields. */
+  /** Empties the fields, and shows as many as the paper is known to have. */
   clear() {
+    if (this.#known !== null && this.count !== this.#known) this.setCount(this.#known);
     for (const field of [...this.#fields, ...this.#spare]) field.set("");
   }
 
@@ -283,7 +292,7 @@ export class PaperEntry {
     const empty = this.#fields.findIndex((field) => field.word === "");
     if (empty < 0) return null;
     if (words.length === 0) return { told: say("entry.nothing") };
-    const told = say(this.#onChange ? "damaged.missing" : "entry.missing", { number: empty + 1, count: words.length, fields: this.count });
+    const told = say(this.#onChange ? "damaged.missing" : this.#counts.hidden ? "back.missing" : "entry.missing", { number: empty + 1, count: words.length, fields: this.count });
     return { told, field: this.#fields[empty] };
   }
 

@@ -86,7 +86,7 @@ export function typeBack(desk, { index, name, shown = name }, place, words) {
       } catch (error) {
         return { isTaken: false, text: saidError(error, "back"), words: wordsToLookAt(error) };
       }
-    });
+    }, null, true);
     const again = button(say("back.again", { name: shown }), () => resolve(false));
     const told = [paragraph(place, "place"), paragraph(say("back.how"))];
     show(say("back.title", { name: shown }), null, ...told, entry.element, element("div", { class: "buttons" }, again));

@@ -356,6 +356,7 @@ export const TEXTS = {
   "back.begin": "You type each paper from what you wrote. That shows whether it can be read, and whether each word is right.",
   "back.title": "Type paper {name} back",
   "back.how": "Type the words as they stand on your paper.",
+  "back.missing": "Word {number} is missing: {count} of {fields} words are typed.",
   "back.again": "Show paper {name} again",
   "back.same": "Paper {name} is written as it was shown, word for word.",
   "back.other": "You typed paper {typed}, and this is the turn of paper {name}. Take paper {name}, and type that one.",

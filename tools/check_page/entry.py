@@ -242,4 +242,35 @@ def check_damaged(page, see):
     page.wait_title(say("home.title"))
 
 
-CHECKS = [check_unread, check_keys, check_habits, check_guessed, check_mistyped, check_kept, check_damaged]
+# Whether the number of words is asked for, and how many fields are shown.
+COUNTED = "`${[...document.querySelectorAll('.counts')].some((it) => it.checkVisibility())} ${document.querySelectorAll('.word:not([hidden])').length}`"
+
+
+def check_known_count(page, see):
+    """The number of words of a paper that is typed back is known. So it isn't asked for, unless more words than that are pasted."""
+    begin(page, "damaged")
+    if page.evaluate(COUNTED) != "true 20":
+        raise Failed("the number of words of a damaged paper isn't asked for")
+    paste(page, with_words({6: "?"}))
+    page.push(say("damaged.write", name="0.0"))
+    page.push(say("paper.written"))
+    page.wait_title(say("back.title", name="0.0"))
+    for typed, told, counted_as in [
+        (" ".join(SOUND.split()[:2]), say("back.missing", number=3, count=2, fields=20), "false 20"),
+        (f"{SOUND} acid", said(12, first=21), "true 21"),
+    ]:
+        paste(page, typed)
+        page.wait_text(told)
+        if page.evaluate(COUNTED) != counted_as:
+            raise Failed(f"where a paper is typed back, {page.evaluate(COUNTED)!r} isn't {counted_as!r}, whether the number of words is asked for")
+        see("a paper that is typed back with another number of words")
+        page.push(say("entry.empty"))
+        if page.evaluate(COUNTED) != "false 20":
+            raise Failed("the number of words is asked for though nothing is typed of a paper that is typed back")
+    paste(page, SOUND)
+    page.wait_title(say("damaged.check.title"))
+    page.push(say("clear"))
+    page.wait_title(say("home.title"))
+
+
+CHECKS = [check_unread, check_keys, check_habits, check_guessed, check_mistyped, check_kept, check_damaged, check_known_count]

@@ -80,6 +80,7 @@ FAULTS = [
     ("another paper is taken for the right one", "page/desk.js", "const found = beside(engine, line, held.shown[index]);", 'const found = "same";', of_page(lambda page: tasks.check_make(page, unseen))),
     ("words that weren't read are left out", "page/collect.js", "if (!this.#entry.isEmpty) {", "if (false) {", of_page(lambda page: entry.check_unread(page, unseen))),
     ("a paper that was taken out is still called sound", "page/collect.js", 'this.#entry.say(say("collect.dropped", { name }));', "", of_page(lambda page: refusals.check_words(page, unseen))),
+    ("the number of words is asked for though it is known", "page/show_paper.js", "    }, null, true);", "    });", of_page(lambda page: entry.check_known_count(page, unseen))),
     ("Enter and Tab end the next word", "page/word_field.js", "if (isEnding && arrived === this", "if (false && arrived === this", of_page(lambda page: entry.check_keys(page, unseen))),
     ("another try empties the fingerprint", "page/passphrase.js", 'field.value = noted ?? "";', 'field.value = "";', of_page(lambda page: tasks.check_papers(page, unseen))),
     ("a refusal chooses another secret", "page/make_backup.js", "new SecretFields(desk, chosen)", 'new SecretFields(desk, { ...chosen, source: "new" })', of_page(lambda page: steps.check_chosen(page, unseen))),

@@ -2,8 +2,8 @@
 
     python3 tools/check_papers [--cases N] [--faults] [PART..]
 
-PART is one of entry, tasks, refusals, steps, slips, astray, pasted, repaired, change, ends, traces, scrollback, looks and agreement;
-without one, all of them run.
+PART is one of entry, tasks, refusals, steps, slips, astray, pasted, repaired, apart, change, ends, traces, scrollback, looks and
+agreement; without one, all of them run.
 `agreement` compares N generated backups with ./shamir, 20 if N isn't given. `--faults` plants faults in copies of the program instead, and checks
 that each is found. A part whose tool is missing says so. The status is 1 if something fails. A part that fails beside others is tried
 once more, by itself.
@@ -23,7 +23,7 @@ sys.path[:0] = [str(ROOT / "tools" / "check_papers"), str(ROOT / "tools")]
 from left_out import left_out, say_skipped  # noqa: E402
 
 LIBRARY = ROOT / "bindings" / "python" / "shamir" / "libshamir.so"
-PARTS = ["looks", "ends", "refusals", "slips", "astray", "pasted", "repaired", "change", "steps", "tasks", "traces", "scrollback", "entry", "agreement"]
+PARTS = ["looks", "ends", "refusals", "slips", "astray", "pasted", "repaired", "apart", "change", "steps", "tasks", "traces", "scrollback", "entry", "agreement"]
 AT_ONCE = min(4, len(os.sched_getaffinity(0)))
 
 
@@ -40,6 +40,7 @@ def check_entry(_):
 
 def parts(cases):
     import agreement
+    import apart
     import astray
     import change
     import ends
@@ -53,7 +54,7 @@ def parts(cases):
     import tasks
     import traces
 
-    of_modules = {it.__name__: it.check for it in (tasks, refusals, steps, slips, astray, pasted, repaired, change, ends, traces, scrollback, looks)}
+    of_modules = {it.__name__: it.check for it in (tasks, refusals, steps, slips, astray, pasted, repaired, apart, change, ends, traces, scrollback, looks)}
     return {**of_modules, "entry": check_entry, "agreement": lambda see: agreement.check(see, cases)}
 
 

@@ -5,7 +5,7 @@ import os
 from hands import END, Failed, counted, say
 from refusals import NUMBERED, changed, end_by_keys, started, word_prompt
 from slips import papers_of, sure
-from tasks import FINGERPRINT, PASSPHRASE, SIGN, SOUND_PAPER, THREE_GROUPS, Owner, fingerprint_of, name_of, paper_prompt
+from tasks import FINGERPRINT, PASSPHRASE, SECRET, SIGN, SOUND_PAPER, THREE_GROUPS, Owner, fingerprint_of, name_of, paper_prompt
 
 PLAN = "2/3of5,1of1"
 
@@ -70,17 +70,17 @@ def check_left_out():
 
 
 def check_refused():
-    """A sound paper of another backup is left out too. If an owner takes a paper out and types it again, it counts as before."""
+    """A sound paper that can't be of one backup with the others is left out too."""
     with started("check") as owner:
         owner.collect([THREE_GROUPS[3]])
         owner.answer(say("more.papers"), "")
-        owner.type_paper(paper_prompt(2), SOUND_PAPER)
+        owner.type_paper(paper_prompt(2), changed(THREE_GROUPS[3], value=bytes.fromhex(SECRET)))
         owner.type_paper(paper_prompt(2), THREE_GROUPS[4])
         owner.reply(paper_prompt(3), "")
         owner.passphrase(PASSPHRASE, FINGERPRINT)
         owner.wait(say("next.good"))
         owner.expect(say("check.done.left_out"))
-        owner.expect(say("left.sound.one", names="0.0"))
+        owner.expect(say("left.sound.one", names="1.0"))
         silent(owner, counted(1, "left"))
         end_by_keys(owner)
 
@@ -353,12 +353,13 @@ def check_unsaid():
         with started(task) as owner:
             owner.type_paper(paper_prompt(1), THREE_GROUPS[0])
             owner.type_paper(paper_prompt(2), SOUND_PAPER)
-            owner.wait(paper_prompt(2))
-            owner.expect("its first 2 words differ")
-            for number, line in enumerate(THREE_GROUPS[1:4], 2):
+            owner.wait(paper_prompt(3))
+            owner.expect("so it is of another backup than the papers before")
+            for number, line in enumerate(THREE_GROUPS[1:4], 3):
                 owner.type_paper(paper_prompt(number), line)
             owner.forget()
-            owner.answer(paper_prompt(5), "")
+            owner.answer(paper_prompt(6), "")
+            owner.answer(say("backup.choose"), "1")
             owner.passphrase("", FINGERPRINT)
             owner.wait(say("next.again"))
             owner.expect(told)

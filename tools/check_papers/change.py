@@ -90,18 +90,19 @@ def check_unnoted():
 
 
 def check_refused():
-    """Old papers that don't belong together give no new ones. A sound paper of another backup isn't taken, and too few are told."""
+    """Old papers that don't belong together give no new ones. A sound paper of another backup is kept apart, and too few are told."""
     old, noted = backup("3of5", True)
     value = plain.parse(old[1].encode())["value"]
     with started("change") as owner:
         owner.type_paper(paper_prompt(1), old[0])
         owner.type_paper(paper_prompt(2), SOUND_PAPER)
-        owner.wait(paper_prompt(2))
-        owner.expect(say("refused.21"))
-        owner.answer(paper_prompt(2), "")
+        owner.answer(paper_prompt(3), "")
+        owner.answer(say("backup.choose"), "1")
         owner.wait(say("more.papers"))
         owner.expect(say("recover.too_few"))
         owner.answer(say("more.papers"), "")
+        owner.answer(paper_prompt(3), f"{SIGN}0.0")
+        owner.answer(say("entry.drop.which", name="0.0"), "2")
         owner.type_paper(paper_prompt(2), changed(old[1], value=value[::-1]))
         owner.type_paper(paper_prompt(3), old[2])
         owner.answer(paper_prompt(4), "")

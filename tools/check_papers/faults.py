@@ -3,6 +3,7 @@ import pathlib
 import shutil
 import tempfile
 
+import apart
 import astray
 import change
 import ends
@@ -25,12 +26,21 @@ FAULTS = [
     ("Ctrl-Z leaves the screen as it is", "terminal", "        self._leave()\n        signal.signal(signal.SIGTSTP, signal.SIG_DFL)", "        signal.signal(signal.SIGTSTP, signal.SIG_DFL)", scrollback.check),
     ("the echo stays off", "terminal", "self._set(termios.TCSAFLUSH, self._saved)", "pass", tasks.check),
     ("a passphrase is shown", "line", "        if not self._is_hidden:\n            self._terminal.write(_shown(more))", "        self._terminal.write(_shown(more))", lambda see: check_hidden()),
-    ("a wrong word is taken for the nearest", "entry", "marks = [mark if word is None else word", "marks = [nearest(self._list, mark)[0] if word is None else word", lambda see: refusals.check_words()),
+    ("a wrong word is taken for the nearest", "entry", "marks = [mark if word is None else word", "from shamir.papers.spelling import nearest\n            marks = [nearest(mark)[0] if word is None else word", lambda see: refusals.check_words()),
     ("a wrong paper is taken when it is typed back", "shown", "    if is_same(paper, typed):", "    if True:", lambda see: steps.check_new()),
-    ("a paper of another backup is taken", "desk", "shamir.status([*self.lines, paper.line])", "shamir.status([paper.line])", lambda see: refusals.check_others()),
+    ("a paper of another backup is taken", "desk", "shamir.judge([it.line for it in self._kept], paper.line)", "shamir.judge([], paper.line)", lambda see: refusals.check_others()),
+    ("papers of two backups are one backup", "desk", "[paper for paper in self._kept if paper.id == self._id]", "[*self._kept]", lambda see: apart.check_first()),
+    ("the backup isn't chosen", "backups", "    if len(backups) < 2:\n", "    if True:\n", lambda see: apart.check_first()),
+    ("another backup is drilled than the chosen one", "desk", "        self._id = id\n", "        pass\n", lambda see: apart.check_each()),
+    ("papers of another backup aren't told at the end", "collect", "    for papers in desk.others:\n", "    for papers in list[list[Paper]]():\n", lambda see: apart.check_first()),
+    ("papers of another backup don't count as left out", "check", "desk.left_out or desk.others or", "desk.left_out or", lambda see: apart.check_first()),
+    ("of two papers with one name, the first one is taken out", "backups", "    if len(found) < 2:\n", "    if True:\n", lambda see: apart.check_names()),
+    ("the first paper says how many words each has", "desk", "            return counts.get(\" \".join(opening))\n", "            pass\n", lambda see: apart.check_counts()),
+    ("found words make another backup", "collect", "        if is_apart and paper.is_repaired:\n", "        if False:\n", lambda see: apart.check_found()),
+    ("a sound paper is blamed for found words", "desk", "if all(one.is_repaired for one in papers) for it in papers]", "for it in papers if it.is_repaired]", lambda see: apart.check_found()),
     ("every quorum is said to be right", "quorums", "return tried.fingerprint == fingerprint if tried.expected is None else tried.expected", "return True", lambda see: refusals.check_mixed()),
     ("what was pasted answers a question that nobody saw", "screen", "        self.drop_typed()\n        self.tell(text, \"bad\")", "        self.tell(text, \"bad\")", lambda see: refusals.check_pasted()),
-    ("a file is written", "desk", "        self.papers.append(paper)", "        self.papers.append(paper)\n        open(__file__ + '.planted', 'w').close()", lambda see: traces.check_files()),
+    ("a file is written", "desk", "        self._kept.append(paper)", "        self._kept.append(paper)\n        open(__file__ + '.planted', 'w').close()", lambda see: traces.check_files()),
     ("freed memory keeps what it holds", "safety", '"glibc.malloc.perturb=85:glibc.malloc.tcache_count=0"', '"glibc.malloc.tcache_count=0"', lambda see: traces.check_memory()),
     ("Ctrl-C ends with the status 0", "__main__", "os._exit(130)", "os._exit(0)", lambda see: ends.check_in_the_middle()),
     ("a standard input that is no terminal is taken", "__main__", '[("input", 0), ("output", 1)]', '[("output", 1)]', lambda see: ends.check_no_terminal()),
@@ -61,7 +71,7 @@ FAULTS = [
     ("Ctrl-C ends half written papers at once", "screen", "self._held, self._terminal.is_held = text, bool(text)", 'self._held, self._terminal.is_held = "", False', lambda see: ends.check_written()),
     ("a backup that is made is called unfinished", "new", '        desk.written = "made"\n', "", lambda see: ends.check_written()),
     ("a paper isn't shown again while it is typed back", "entry", "            if not text.strip() and self._show is not None:", "            if False:", lambda see: slips.check_written_wrongly()),
-    ("typing back asks for question marks", "shown", 'Entry(screen, len(paper.words), "back", show_again)', 'Entry(screen, len(paper.words), "", show_again)', lambda see: slips.check_written_wrongly()),
+    ("typing back asks for question marks", "shown", 'Entry(screen, lambda marks: count, "back", show_again)', 'Entry(screen, lambda marks: count, "", show_again)', lambda see: slips.check_written_wrongly()),
     ("words that are typed too early clear a paper", "shown", "        return is_alone\n", "        return True\n", lambda see: slips.check_written_wrongly()),
     ("long words that have no place are lost", "entry", 'begun = f"{text.rstrip()} " if len(text.split()) > SHORT else ""', 'begun = ""', lambda see: refusals.check_words()),
     ("a refused answer stays in the line", "entry", "if len(text.split()) > SHORT", "if text.split()", lambda see: refusals.check_words()),
@@ -73,14 +83,14 @@ FAULTS = [
     ("what is pasted in place of Enter is dropped without a word", "screen", "if not is_alone and not self.drop_typed():", "if False:", lambda see: pasted.check_early()),
     ("the first of several lines is taken for a passphrase", "screen", "if not self.is_pasted(PASTE_SECONDS) or not self.drop_typed():", "if True:", lambda see: pasted.check_early()),
     ("a tab of a passphrase is lost", "line", "key == TAB and not self._is_hidden", "key == TAB", lambda see: pasted.check_tab()),
-    ("pasted papers that are wrong are forgotten", "judged", "            judged.faults.append((begin(text), why))\n", "            pass\n", lambda see: pasted.check_misspelt()),
-    ("pasted papers that are wrong can't be mended", "judged", "judged.left += [text] if len(words) >= BEGUN_LEAST else []", "pass", lambda see: pasted.check_misspelt()),
+    ("pasted papers that are wrong are forgotten", "judged", "            found.faults.append((begin(text), why))\n", "            pass\n", lambda see: pasted.check_misspelt()),
+    ("pasted papers that are wrong can't be mended", "judged", "found.left += [text] if len(words) >= BEGUN_LEAST else []", "pass", lambda see: pasted.check_misspelt()),
     ("pasted papers that aren't asked for are dropped without a word", "entry", 'self._screen.tell_seen(say("paste.only", papers=counted(len(texts), "paper")))', "pass", lambda see: pasted.check_elsewhere()),
     ("what is typed ahead is dropped without a word", "screen", "or is_begun\n        if is_dropped:", "or is_begun\n        if False:", lambda see: pasted.check_dropped()),
     ("what isn't taken is told where nobody sees it", "screen", "        for told in self._unseen if title else []:\n            self.tell(*told)\n", "", lambda see: pasted.check_back()),
     ("a key stops a drill at once", "screen", 'if self.agree(say("work.sure")) and', "if True and", lambda see: ends.check_stopped_drill()),
     ("an Enter too many asks whether to stop", "screen", "is_stop = chr(self._terminal.key()).lower() == STOP", "is_stop = chr(self._terminal.key()).lower() in (STOP, '\\n', '\\r')", lambda see: ends.check_stopped_drill()),
-    ("an Enter too many ends", "check", 'for it in ("ep" if', 'for it in ("", *"ep" if', lambda see: refusals.check_passphrases()),
+    ("an Enter too many ends", "check", 'for it in ("ep" if likely == "good" else "etp")', 'for it in ["", *("ep" if likely == "good" else "etp")]', lambda see: refusals.check_passphrases()),
     ("a passphrase that no file gives is taken", "questions", "if len(typed) > most else", "if False else", lambda see: astray.check_letter()),
     ("a noted fingerprint isn't compared before a backup is made", "proof", "elif not gives(Tried((), made.fingerprint, None), typed):", "elif False:", lambda see: steps.check_new()),
     ("a passphrase isn't typed again before a backup is made", "proof", 'desk.set_passphrase(ask_right(screen, say("passphrase.ask"), False))', "ask_right(screen, say('passphrase.ask'), False)", lambda see: steps.check_new()),
@@ -106,15 +116,15 @@ FAULTS = [
     ("a letter is taken for a passphrase", "questions", "if typed.lower() == BACK.encode() and", "if False and", lambda see: astray.check_letter()),
     ("what is typed in place of an answer shows", "questions", "if edge == b\" \" and not screen.agree(say(key), is_hidden=True):", "if edge == b\" \" and not screen.agree(say(key)):", lambda see: astray.check_letter()),
     ("a paper that no backup has is offered", "desk", "return self.group < self.group_count", "return True", lambda see: repaired.check_impossible()),
-    ("a good paper is blamed for a repaired one", "refusals", "    if not repaired and not is_repaired:\n", "    if True:\n", lambda see: repaired.check_repaired()),
+    ("a good paper is blamed for a repaired one", "refusals", "said_repaired(repaired, is_repaired) or said_refusal(refusal)", "said_refusal(refusal)", lambda see: repaired.check_repaired()),
     ("the damaged paper isn't kept", "__main__", 'in ("repaired", "changing", "unfinished")', 'in ("changing", "unfinished")', lambda see: repaired.check_repaired()),
     ("a backup without a whole drill is called done", "__main__", 'in ("repaired", "changing", "unfinished")', 'in ("repaired", "changing")', lambda see: ends.check_unproved()),
     ("a second signal keeps the terminal as it is", "terminal", "            self._is_ending = True\n            raise", "            raise", lambda see: ends.check_two_signals()),
     ("after a stop, what is typed shows", "terminal", "        if self._is_shown and not self._is_ending:\n", "        if False:\n", lambda see: ends.check_stopped()),
     ("a program that is stopped clears the shell's screen", "terminal", "        if self._is_shown and self._is_ours():\n", "        if True:\n", scrollback.check),
     ("an empty line of a paste ends the papers", "paste", 'text = "\\n".join([text, *lines, ask(last) if last else ""])', 'text = text or lines[0]', lambda see: astray.check_pasted_papers()),
-    ("a sound paper is blamed for a new one", "collect", "said_foreign(refusal, repaired, paper.is_repaired)", "said_foreign(refusal, repaired)", lambda see: repaired.check_refused_repaired()),
-    ("a paper that is read in full stays damaged", "desk", "is_repaired=it.is_repaired and paper.is_repaired", "is_repaired=it.is_repaired", lambda see: repaired.check_read_later()),
+    ("a sound paper is blamed for a new one", "collect", "said_foreign(refusal, doubtful, paper.is_repaired)", "said_foreign(refusal, doubtful)", lambda see: repaired.check_refused_repaired()),
+    ("a paper that is read in full stays damaged", "desk", "is_repaired=here.is_repaired and paper.is_repaired", "is_repaired=here.is_repaired", lambda see: repaired.check_read_later()),
     ("a passphrase is cut", "line", "            self.is_cut = True\n", "            pass\n", lambda see: astray.check_letter()),
     ("a drill without the repaired paper counts for it", "check", "is_there and all(paper.name in verdict.names for paper in repaired)", "is_there", lambda see: repaired.check_untried()),
     ("a drill without a paper that was taken out counts for it", "check", 'is_there = desk.written != "repaired" or', "is_there = True or", lambda see: repaired.check_taken_out()),
@@ -172,7 +182,10 @@ def missed(what, module, old, new, check_it):
         text = path.read_text()
         if text.count(old) != 1:
             raise Failed(f"{module}.py has {old!r} {text.count(old)} times, so nothing can be planted there")
-        path.write_text(text.replace(old, new))
+        planted = text.replace(old, new)
+        # A program that doesn't compile fails each check.
+        compile(planted, str(path), "exec")
+        path.write_text(planted)
         habits.how = {"package": copy}
         try:
             check_it(None)

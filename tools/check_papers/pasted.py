@@ -1,10 +1,10 @@
 """Papers that are pasted at once: each is judged, and nothing is dropped without a word."""
 from hands import END, Failed, counted, say
-from refusals import end_by_keys, rows_of, started, word_prompt
+from refusals import changed, end_by_keys, rows_of, started, word_prompt
 from slips import papers_of
-from tasks import SIGN, SOUND_PAPER, Owner, name_of, paper_prompt
+from tasks import SIGN, Owner, name_of, paper_prompt
 
-from shamir.papers.entry import said_count
+from shamir.papers.marks import said_count
 
 # As many papers as fit no screen.
 MANY = "16/" + ",".join(["2of3"] * 16)
@@ -39,15 +39,15 @@ def check_many():
 
 
 def check_misspelt():
-    """The first of 48 papers is misspelt, one is of another backup, and one lacks a word: the others are taken, and the owner mends those two."""
+    """The first of 48 papers is misspelt, one is forged, and one lacks a word: the others are taken, and the owner mends those two."""
     papers = papers_of(MANY)
-    wrong, short = misspelt(papers[0], 5, "acdemic"), " ".join(papers[7].split()[:-1])
+    wrong, short, forged = misspelt(papers[0], 5, "acdemic"), " ".join(papers[7].split()[:-1]), changed(papers[1], value=bytes(16))
     with started("check") as owner:
         owner.wait(paper_prompt(1))
-        owner.type("".join(f"{line}\n" for line in [wrong, *papers[1:7], short, SOUND_PAPER, *papers[8:]]))
+        owner.type("".join(f"{line}\n" for line in [wrong, *papers[1:7], short, forged, *papers[8:]]))
         owner.answer(say("paste.mend"), "")
         owner.expect(say("paste.taken", names=named([*papers[1:7], *papers[8:]])))
-        for line, why in [(wrong, "Word 5, acdemic, isn't in the word list (academic"), (short, said_count(19, 20)), (SOUND_PAPER, say("refused.21"))]:
+        for line, why in [(wrong, "Word 5, acdemic, isn't in the word list (academic"), (short, said_count(19, 20)), (forged, say("refused.28", first=0, second=1))]:
             owner.expect(f"Not taken: the paper that begins with '{first(line)}'. {why}")
         owner.answer(word_prompt(5), papers[0].split()[4])
         owner.answer(say("entry.on", typed=said_count(19, 20), number=20, sign=SIGN), papers[7].split()[-1])

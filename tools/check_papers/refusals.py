@@ -3,7 +3,7 @@ from hands import Failed, counted, say
 from tasks import FINGERPRINT, PASSPHRASE, SIGN, SOUND_PAPER, THREE_GROUPS, Owner, example, fingerprint_of, name_of, paper_prompt
 
 import plain
-from shamir.papers.entry import said_count
+from shamir.papers.marks import said_count
 
 TWO = example("two-needed.txt")
 # Published vectors of SLIP-0039. In the first, word 20 is wrong.
@@ -24,11 +24,10 @@ def changed(line, **fields):
 
 
 def of_another_backup():
-    """Returns papers that are sound, and that are refused beside the first paper of the example."""
+    """Returns papers that are sound, and that are refused beside the first paper of the example, whose identifier they have."""
     first = THREE_GROUPS[0]
     value = plain.parse(first.encode())["value"]
     return [
-        (SOUND_PAPER, say("refused.21")),
         (changed(first, extendable=1), say("refused.22")),
         (changed(first, exponent=3), say("refused.23")),
         (changed(first, group_threshold=1), say("refused.24")),
@@ -161,7 +160,7 @@ def check_pasted():
         owner.expect(say("status.enough"))
         owner.type(TWO[0].replace("always", "alwys") + "\n" + "always\n" * 3)
         owner.answer(say("paste.mend"), "")
-        owner.expect(say("paste.left", begin="always always always", why=said_count(3, 20)))
+        owner.expect(say("paste.left", begin="always always always", why=said_count(3, None)))
         owner.type("acdmic\nacid acid\n")
         owner.wait(word_prompt(4))
         owner.expect(say("screen.dropped"))
@@ -240,7 +239,7 @@ def check_long():
         owner.answer(NUMBERED, " ".join(words[20:]))
         owner.wait(paper_prompt(2))
         owner.expect(say("collect.taken", name="0.0"))
-        owner.answer(paper_prompt(2), f"{SOUND_PAPER} acid")
+        owner.answer(paper_prompt(2), " ".join(words[:21]))
         typed = say("entry.count.wanted", count=21, words=counted(33, "word"), missing="12 words are missing")
         owner.answer(say("entry.on", number=22, sign=SIGN, typed=typed), SIGN)
         owner.wait(paper_prompt(2))

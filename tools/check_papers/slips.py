@@ -4,7 +4,7 @@ from refusals import NUMBERED, back_prompt, end_by_keys, started
 from tasks import FINGERPRINT, PASSPHRASE, SIGN, THREE_GROUPS, name_of, paper_prompt, short
 
 import plain
-from shamir.papers.entry import said_count
+from shamir.papers.marks import said_count
 
 
 def sure(name):

@@ -20,8 +20,9 @@ import shamir  # noqa: E402
 import shamir.papers  # noqa: E402
 from shamir.papers.desk import Desk, paper_of  # noqa: E402
 from shamir.papers.drill import said_total, verdict_of  # noqa: E402
-from shamir.papers.entry import Entry, said_count  # noqa: E402
+from shamir.papers.entry import Entry  # noqa: E402
 from shamir.papers.found import ask_paper  # noqa: E402
+from shamir.papers.marks import said_count  # noqa: E402
 from shamir.papers.paste import papers_in  # noqa: E402
 from shamir.papers.plan import plain_plan, plan_of, said_dangers, said_plan, said_singles, said_takes  # noqa: E402
 from shamir.papers.quorums import Tried, quorum_with, suspects  # noqa: E402
@@ -104,7 +105,7 @@ def typed_by(chance, line):
 class EntryTests(unittest.TestCase):
     def read(self, *answers, wanted=None):
         screen = Scripted(*answers)
-        found = Entry(screen, wanted).read("Paper 1:")
+        found = Entry(screen, lambda marks: wanted).read("Paper 1:")
         self.assertEqual(screen.answers, [])
         return " ".join(found), screen
 
@@ -268,12 +269,12 @@ class EntryTests(unittest.TestCase):
         """What a question mark took the place of keeps its place if a word before it is taken out, and is forgotten with the paper."""
         words = ONE.split()
         screen = Scripted(" ".join([*words[:7], *words[6:-1], "xyzt"]), "?", "8", True)
-        entry = Entry(screen, None)
+        entry = Entry(screen)
         self.assertEqual(entry.paper(entry.read("Paper 1:")).line, ONE)
         self.assertIn(f"Word 20: {words[-1]} (you typed xyzt)", screen.told)
         self.assertEqual((entry.replaced, screen.answers), ({20: "xyzt"}, []))
         screen = Scripted(" ".join(["xyzt", *words[1:18], "acid", "acid"]), "?", ONE)
-        entry = Entry(screen, None)
+        entry = Entry(screen)
         self.assertEqual((entry.read("Paper 1:"), entry.replaced, screen.answers), (words, {}, []))
 
     def test_other_list_in_rows(self):
@@ -281,7 +282,7 @@ class EntryTests(unittest.TestCase):
         row = "abandon zoo letter advice"
         for show, times in [(None, 1), (lambda: None, 0)]:
             screen = Scripted(row, "acid", "academic", "-", ONE)
-            self.assertEqual(Entry(screen, None, show=show).read("Paper 1:"), ONE.split())
+            self.assertEqual(Entry(screen, show=show).read("Paper 1:"), ONE.split())
             self.assertEqual(screen.told.count(say("entry.other_list")), times)
 
     def test_bip39(self):
@@ -289,9 +290,9 @@ class EntryTests(unittest.TestCase):
         found, screen = self.read(words, ONE)
         self.assertEqual(found, ONE)
         self.assertIn(say("entry.bip39", count=12), screen.told)
-        self.assertTrue(seems_bip39(WORDS, ["abandon"] * 24))
-        self.assertFalse(seems_bip39(WORDS, ONE.split()[:12]))
-        self.assertFalse(seems_bip39(WORDS, ["enlrage", *ONE.split()[:11]]))
+        self.assertTrue(seems_bip39(["abandon"] * 24))
+        self.assertFalse(seems_bip39(ONE.split()[:12]))
+        self.assertFalse(seems_bip39(["enlrage", *ONE.split()[:11]]))
 
     def test_faulty_programs_papers(self):
         padding = "duckling enlarge academic academic email result length solution fridge kidney coal piece deal husband erode duke ajar music cargo fitness"
@@ -302,21 +303,21 @@ class EntryTests(unittest.TestCase):
     def test_open_words(self):
         words = ONE.split()
         words[3], words[6] = "?", "le?"
-        marks = Entry(Scripted(" ".join(words)), None).read("Paper 1:")
+        marks = Entry(Scripted(" ".join(words))).read("Paper 1:")
         taken = Scripted(True)
         self.assertEqual(ask_paper(taken, marks).line, ONE)
         self.assertIn("Word 4: academic", taken.told)
         self.assertIsNone(ask_paper(Scripted(False), marks))
         mended = Scripted(False, "7 le?", False, "7 length", True)
-        self.assertEqual(Entry(mended, None).paper(marks).line, ONE)
-        self.assertIsNone(Entry(Scripted(False, "-"), None).paper(marks))
+        self.assertEqual(Entry(mended).paper(marks).line, ONE)
+        self.assertIsNone(Entry(Scripted(False, "-")).paper(marks))
 
     def test_open_words_that_fit_nothing(self):
         words = ONE.split()
         words[3], words[4] = "?", "kidney"
         words[5] = "piece"
         screen = Scripted(" ".join(words), "-", "")
-        self.assertEqual(Entry(screen, None).read("Paper 1:"), [])
+        self.assertEqual(Entry(screen).read("Paper 1:"), [])
         self.assertEqual(screen.told[-1], say("refused.17"))
 
     def test_letters_that_follow(self):
@@ -325,12 +326,12 @@ class EntryTests(unittest.TestCase):
         words[3], words[6] = words[6], words[3]
         for typed, behind in [("e", ""), ("4", ""), ("4 acid 7", "4 acid 7 ")]:
             screen = Scripted(" ".join(words), typed, f"4 {words[6]} 7 {words[3]}")
-            self.assertEqual(Entry(screen, None).read("Paper 1:"), ONE.split())
+            self.assertEqual(Entry(screen).read("Paper 1:"), ONE.split())
             self.assertTrue(any(text.startswith(say("entry.numbers", count=20)) for text in screen.told), screen.told)
             self.assertEqual(screen.begun[-1], behind)
 
     def test_drop_sign(self):
-        self.assertEqual(Entry(Scripted("-0.1"), None).read("Paper 2:"), ["-0.1"])
+        self.assertEqual(Entry(Scripted("-0.1")).read("Paper 2:"), ["-0.1"])
         found, screen = self.read("-", "12.", "")
         self.assertEqual((found, screen.told), ("", [say("entry.wordless")] * 2))
         self.assertEqual(self.read("\n".join(["- " + word for word in ONE.split()]).replace("\n", " "))[0], ONE)
@@ -349,7 +350,7 @@ class PasteTests(unittest.TestCase):
             with self.subTest(round=round):
                 lines = [it for line in papers for it in [*typed_by(chance, line), *[""] * chance.randint(0, 2)]]
                 pasted = papers_in("\n".join(lines), None)
-                self.assertEqual([Entry(Scripted(it), None).read("Paper 1:") for it in pasted], [line.split() for line in papers])
+                self.assertEqual([Entry(Scripted(it)).read("Paper 1:") for it in pasted], [line.split() for line in papers])
 
     def test_a_paper_that_is_not_sound(self):
         """A paper that isn't sound ends before the next one that is, or that its first line announces, or at as many words as papers have."""
@@ -378,7 +379,7 @@ class DeskTests(unittest.TestCase):
         for left, line in [(1, FIVE[1]), (1, FIVE[2]), (0, FIVE[0])]:
             desk.add(paper_of(line))
             self.assertEqual(len(desk.left_out), left)
-        self.assertTrue(desk.drop(desk.papers[-1].name))
+        desk.drop(desk.papers[-1])
         self.assertEqual(len(desk.left_out), 1)
         desk.clear()
         self.assertEqual(len(desk.left_out), 0)
@@ -459,9 +460,9 @@ class SpellingTests(unittest.TestCase):
         self.assertEqual(said_empty(["a", "", "", "", "b", "", "c", "", ""]), "2 to 4, 6, 8, 9")
 
     def test_nearest(self):
-        self.assertEqual(nearest(WORDS, "emrald")[0], "emerald")
-        self.assertIn("shadow", nearest(WORDS, "shadw"))
-        self.assertEqual(nearest(WORDS, "?"), [])
+        self.assertEqual(nearest("emrald")[0], "emerald")
+        self.assertIn("shadow", nearest("shadw"))
+        self.assertEqual(nearest("?"), [])
 
 
 class PlanTests(unittest.TestCase):

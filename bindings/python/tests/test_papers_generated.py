@@ -22,6 +22,8 @@ from shamir.papers.terminal import Ended, Resized  # noqa: E402
 from test_papers_keys import KeysAside  # noqa: E402
 
 SESSIONS = 200
+# In each session of so many, the owner has papers of several backups.
+MIXED = 8
 WORDS = shamir.words("")
 PLANS = [("2of3", False), ("2of3", True), ("3of5", True), ("1/1of1,2of3", False)]
 BACKUPS = [[ONE], TWO, FIVE, *(shamir.create(plan, bytes(16), extendable=flag, random=bytes(shamir.random_needed(plan, 16))) for plan, flag in PLANS)]
@@ -42,6 +44,8 @@ ANSWERS = [
     (r"1 to 16; b", ["0", "1", "2", "3", "5", "16"]),
     (r"The missing paper, such as", ["0.0", "0.1", "0.2", "1.0", "2", "d", "b"]),
     (r"d: try the papers together\. b", ["d", "b"]),
+    (r"The number of a backup \(b", ["1", "1", "2", "3", "b"]),
+    (r"is to be taken out \(0", ["0", "1", "2"]),
     (r"c: change the plan now", ["c", "c", "e", "b"]),
     (r"(Word \d+|Number and word|are missing)", ["?", "acid", "7 acid", "-", "", "", "12"]),
     (r"", ["", "", "e", "p", "t", "c", "w", "1", "check", "replace", "change"]),
@@ -49,8 +53,8 @@ ANSWERS = [
 
 
 class Guessed(KeysAside):
-    """A terminal at which an owner answers up to so many questions, and then closes it. The owner knows the papers of one backup, and
-    those that were shown."""
+    """A terminal at which an owner answers up to so many questions, and then closes it. The owner knows the papers of one backup, or of a
+    few, and those that were shown."""
 
     def __init__(self, chance, count):
         super().__init__([])
@@ -62,6 +66,11 @@ class Guessed(KeysAside):
     @property
     def size(self):
         return type("Size", (), {"columns": self.columns, "lines": 24})
+
+    def mix(self):
+        """Gives the owner papers of a few backups, in no order."""
+        self.papers = [line for lines in self.chance.sample(BACKUPS, 3) for line in lines]
+        self.chance.shuffle(self.papers)
 
     def clear(self):
         self.shown = ""
@@ -135,6 +144,8 @@ class GeneratedTests(unittest.TestCase):
         for number in range(SESSIONS):
             chance = random.Random(number)
             desk, terminal = Desk(), Guessed(chance, chance.choice([10, 30, 100]))
+            if number % MIXED == 0:
+                terminal.mix()
             with self.subTest(session=number):
                 try:
                     run(Screen(terminal), desk, chance.choice([None, "new", "replace", "change", *RUN]), None)

@@ -111,7 +111,7 @@ def _kind(desk: Desk, verdict: Verdict, result: str) -> str:
     if result == "good":
         is_whole = all(paper.name in verdict.names for paper in desk.papers)
         is_written = any(it.is_rewritten and not it.is_repaired for it in desk.papers)
-        return "left_out" if desk.left_out or not is_whole else "damaged" if desk.damaged else "written" if is_written else result
+        return "left_out" if desk.left_out or desk.others or not is_whole else "damaged" if desk.damaged else "written" if is_written else result
     return "other.none" if result == "other" and not verdict.has_passphrase else result
 
 

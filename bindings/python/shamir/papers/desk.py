@@ -5,14 +5,19 @@ import ctypes
 import dataclasses
 import threading
 from dataclasses import dataclass, field
-from typing import Iterator, List, Optional, Sequence, Tuple
+from typing import Dict, Iterator, List, Optional, Sequence, Tuple
 
 import shamir
 from shamir.papers.line import wipe
 from shamir.papers.quorums import Tried
+from shamir.papers.spelling import read
 
 # From so many words on, what was typed is a paper that was begun.
 BEGUN_LEAST = 10
+# So many words begin all papers of a backup. They hold its identifier, the flag and the exponent.
+OPENING_WORDS = 2
+# So many letters identify a word of the list.
+IDENTIFYING = 4
 
 
 @dataclass(frozen=True)
@@ -22,6 +27,7 @@ class Paper:
 
     line: str = field(repr=False)
     name: str
+    id: int
     group: int
     exponent: int
     secret_bytes: int
@@ -41,29 +47,33 @@ class Paper:
     def words(self) -> List[str]:
         return self.line.split()
 
+    @property
+    def opening(self) -> str:
+        """The words with which all papers of its backup begin."""
+        return " ".join(self.words[:OPENING_WORDS])
+
 
 def paper_of(line: str) -> Paper:
     """Reads a paper, or raises the library's refusal."""
     share = shamir.parse(line)
     name = f"{share.group_index}.{share.member_index}"
     counts = share.group_count, share.group_threshold, share.member_threshold
-    return Paper(line, name, share.group_index, share.exponent, len(share.value), *counts, is_extendable=share.extendable)
-
-
-def find_fault(line: str) -> None:
-    """Raises the refusal that says where the wrong word of a paper is, if the library can tell."""
-    shamir.repair(line)
+    return Paper(line, name, share.id, share.group_index, share.exponent, len(share.value), *counts, is_extendable=share.extendable)
 
 
 def is_same(one: Paper, other: Paper) -> bool:
-    """Whether two papers spell the same share."""
-    return one.name == other.name and shamir.parse(one.line) == shamir.parse(other.line)
+    """Whether two papers spell the same share, as the library judges it."""
+    try:
+        return shamir.judge([one.line], other.line).again
+    except shamir.Refusal:
+        return False
 
 
 def resembles(one: Sequence[str], other: Sequence[str]) -> bool:
     """Whether two rows of words are most likely of one paper: they have most words in common. Papers of one backup share only the first
-    words."""
-    return 2 * len({*one} & {*other}) > min(len({*one}), len({*other}))
+    words. A word may be cut to the letters that identify it."""
+    its, others = ({word[:IDENTIFYING] for word in words} for words in (one, other))
+    return 2 * len(its & others) > min(len(its), len(others))
 
 
 def drawn(count: int) -> bytearray:
@@ -77,10 +87,14 @@ def drawn(count: int) -> bytearray:
 
 
 class Desk:
-    """The papers that were typed, in the order of typing, the papers to be shown, and the passphrase."""
+    """The papers that were typed, in the order of typing, the papers to be shown, and the passphrase. Papers of several backups are kept
+    apart by their identifiers, and `papers` are those of one of them, which the task is about."""
 
     def __init__(self) -> None:
-        self.papers: List[Paper] = []
+        # The papers of all backups, and the identifier of the one that the task is about: that of the paper that was typed last, or the
+        # one that the owner chose.
+        self._kept: List[Paper] = []
+        self._id = -1
         self.passphrase = bytearray()
         # The words of papers that were begun, and that weren't taken.
         self._left: List[List[str]] = []
@@ -94,7 +108,7 @@ class Desk:
         """Drops the papers, and overwrites the passphrase."""
         wipe(self.passphrase)
         self.passphrase = bytearray()
-        self.papers = []
+        self._kept = []
         self._left = []
         self._anew = []
 
@@ -106,30 +120,77 @@ class Desk:
         self.set_passphrase(bytearray())
 
     @property
+    def typed(self) -> List[Paper]:
+        """The papers of all backups."""
+        return [*self._kept]
+
+    @property
+    def backups(self) -> Dict[int, List[Paper]]:
+        """The papers of each backup by its identifier, in the order in which the backups came."""
+        return {id: [paper for paper in self._kept if paper.id == id] for id in dict.fromkeys(paper.id for paper in self._kept)}
+
+    @property
+    def papers(self) -> List[Paper]:
+        return [paper for paper in self._kept if paper.id == self._id]
+
+    @property
+    def others(self) -> List[List[Paper]]:
+        """The papers of each other backup, which the task isn't about."""
+        return [papers for id, papers in self.backups.items() if id != self._id]
+
+    @property
     def lines(self) -> List[str]:
         return [paper.line for paper in self.papers]
 
+    def choose(self, id: int) -> None:
+        """From now on, the task is about the backup with this identifier."""
+        self._id = id
+
+    def word_count(self, marks: Sequence[str]) -> Optional[int]:
+        """Returns how many words a paper has that begins with these marks. Those of a backup that is here have as many as its others. Before
+        the marks say of which backup it is, all papers here must have as many; else, returns None."""
+        counts = {paper.opening: len(paper.words) for paper in self._kept}
+        opening = [read(mark) or "?" for mark in marks[:OPENING_WORDS] if mark]
+        if len(opening) == OPENING_WORDS and "?" not in "".join(opening):
+            return counts.get(" ".join(opening))
+        return next(iter(counts.values())) if len({*counts.values()}) == 1 else None
+
+    def is_apart(self, paper: Paper) -> bool:
+        """Whether papers are here, and none of the backup of this one."""
+        return bool(self._kept) and paper.id not in self.backups
+
+    @property
+    def unsure(self) -> List[Paper]:
+        """The papers of each backup of which none was read in full. So a word that was found may make it another backup."""
+        return [it for papers in self.backups.values() if all(one.is_repaired for one in papers) for it in papers]
+
+    def doubtful(self, paper: Paper) -> List[Paper]:
+        """Returns the papers here of which words were found, and that may be wrong if a paper doesn't fit them."""
+        return self.unsure if self.is_apart(paper) else [it for it in self.backups.get(paper.id, []) if it.is_repaired]
+
     def add(self, paper: Paper) -> bool:
-        """Takes a paper, or raises the refusal of a paper that doesn't belong to the others. Returns whether it is a new one. One that is
-        read in full takes the place of the same one of which words were found."""
-        shamir.status([*self.lines, paper.line])
+        """Takes a paper, or raises the library's refusal of one that doesn't belong to the others of its backup. Returns whether it is a new
+        one. One that is read in full takes the place of the same one of which words were found."""
+        found = shamir.judge([it.line for it in self._kept], paper.line)
         paper = next((it for it in self._anew if is_same(paper, it)), paper)
         if paper.is_rewritten:
             self._anew = [*self._anew, paper]
-        for at, it in enumerate(self.papers):
-            if is_same(paper, it):
-                if not it.is_rewritten:
-                    self.papers[at] = dataclasses.replace(it, is_repaired=it.is_repaired and paper.is_repaired)
-                return False
-        self.papers.append(paper)
+        self._id = paper.id
+        if found.again:
+            self._kept = [_read_again(it, paper) if (it.id, it.name) == (paper.id, paper.name) else it for it in self._kept]
+            return False
+        self._kept.append(paper)
         return True
 
-    def drop(self, name: str) -> bool:
-        """Puts a paper away again. Returns whether it was there."""
-        kept = [paper for paper in self.papers if paper.name != name]
-        is_dropped = len(kept) < len(self.papers)
-        self.papers = kept
-        return is_dropped
+    def named(self, name: str) -> List[Paper]:
+        """Returns the papers with a name, one at most of each backup."""
+        return [paper for paper in self._kept if paper.name == name]
+
+    def drop(self, paper: Paper) -> None:
+        """Puts a paper away again."""
+        self._kept = [it for it in self._kept if it is not paper]
+        if self._kept and not self.papers:
+            self._id = self._kept[-1].id
 
     def leave_out(self, words: Sequence[str]) -> None:
         """Takes note of a paper that was begun, and that isn't taken. A few words are no paper."""
@@ -139,7 +200,7 @@ class Desk:
     @property
     def left_out(self) -> List[str]:
         """Returns the lines of the papers that were begun, and aren't here."""
-        return [" ".join(words) for words in self._left if not any(resembles(words, paper.words) for paper in self.papers)]
+        return [" ".join(words) for words in self._left if not any(resembles(words, paper.words) for paper in self._kept)]
 
     @property
     def damaged(self) -> List[str]:
@@ -158,12 +219,16 @@ class Desk:
         so that nobody takes both for one backup."""
         while True:
             lines = shamir.create(plan, secret, passphrase=self.passphrase, exponent=exponent, extendable=extendable)
-            if not self.papers or shamir.parse(lines[0]).id != shamir.parse(self.lines[0]).id:
-                return [paper_of(line) for line in lines], shamir.fingerprint(secret)
+            papers = [paper_of(line) for line in lines]
+            if papers[0].id not in self.backups:
+                return papers, shamir.fingerprint(secret)
 
     def resplit(self, plan: str) -> List[Paper]:
         """Makes the papers of another plan for the same secrets, one for each passphrase. Their identifier is another one."""
-        return [paper_of(line) for line in shamir.resplit(plan, self.lines)]
+        while True:
+            papers = [paper_of(line) for line in shamir.resplit(plan, self.lines)]
+            if papers[0].id not in self.backups:
+                return papers
 
     def reissue(self, plan: str, name: str) -> Paper:
         return paper_of(shamir.reissue(plan, name, self.lines)[0])
@@ -188,6 +253,11 @@ class Desk:
         """Tries the one quorum that these papers are."""
         [outcome] = self._outcomes([paper.line for paper in self.papers if paper.name in names], expect)
         return outcome
+
+
+def _read_again(here: Paper, paper: Paper) -> Paper:
+    """Returns a paper that is here after the same one was typed again. One that was written anew stays such a paper."""
+    return here if here.is_rewritten else dataclasses.replace(here, is_repaired=here.is_repaired and paper.is_repaired)
 
 
 def derivation_seconds(measured: float, exponent: int, secret_bytes: int) -> float:

@@ -5,7 +5,7 @@ import functools
 import threading
 import time
 from dataclasses import dataclass, field
-from typing import Callable, Iterable, List, Optional, Sequence, Tuple
+from typing import Callable, Iterable, List, Sequence, Tuple
 
 import shamir
 from shamir.papers.desk import Desk, Paper, derivation_seconds
@@ -71,9 +71,8 @@ def run_drill(screen: Screen, desk: Desk, noted: str, is_own: bool = False, is_n
     the papers take the place of others.
     """
     total, tried = desk.quorums(), list[Tried]()
-    is_whole = total <= TRIED_WHOLE
     screen.tell(say("drill.what"))
-    screen.tell(say("drill.count" if is_whole else "drill.count_part", total=said_total(total), first=f"{TRIED_FIRST:,}"))
+    screen.tell(said_quorums(total))
     warned_time(screen, desk.papers[0])
     is_stopped = False
     try:
@@ -81,6 +80,11 @@ def run_drill(screen: Screen, desk: Desk, noted: str, is_own: bool = False, is_n
     except Stopped:
         is_stopped = True
     return verdict_of(list(tried), total, noted, is_own, is_stopped, bool(desk.passphrase), is_new)
+
+
+def said_quorums(total: int) -> str:
+    """Says how many quorums there are, and how many are tried if these are too many."""
+    return say("drill.count" if total <= TRIED_WHOLE else "drill.count_part", total=said_total(total), first=f"{TRIED_FIRST:,}")
 
 
 def said_total(total: int) -> str:

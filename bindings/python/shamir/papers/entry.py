@@ -5,20 +5,19 @@ is typed, and what was typed stays: what has no place stands again behind the qu
 """
 from __future__ import annotations
 
-from typing import Callable, Dict, List, Optional, Sequence, Tuple
+from typing import Callable, Dict, List, Optional, Sequence
 
 import shamir
-from shamir.papers.desk import Paper, find_fault, paper_of, resembles
+from shamir.papers.desk import Paper, resembles
 from shamir.papers.found import ask_paper
+from shamir.papers.marks import FEW, MANY, Counting, judged, refused, said_count, said_unknown, unknown
 from shamir.papers.paste import PASTE_MAX, Pasted, ask_whole, papers_in
 from shamir.papers.refusals import said_refusal, wrong_word
 from shamir.papers.screen import Screen
-from shamir.papers.spelling import DROP, LEAST, Part, beginning, continued, has_idle_number, nearest, numbers_of, parts_of, placed
-from shamir.papers.spelling import read, said_empty, seems_bip39, taken_out
+from shamir.papers.spelling import DROP, LEAST, Part, continued, has_idle_number, numbers_of, parts_of, placed, read, said_empty
+from shamir.papers.spelling import seems_bip39, taken_out
 from shamir.papers.texts import counted, say
 
-# Most papers have one of these numbers of words.
-FEW, MANY = 20, 33
 # If more words than this part of them aren't in the list, they are of another list.
 UNKNOWN_PART = 3
 # From so many words on, that can be told.
@@ -32,25 +31,24 @@ class Begun(Exception):
 
 
 class Entry:
-    """Reads papers. `wanted` is how many words each has, if that is known. `task` has its own words for some refusals. `show` shows the
-    paper again that is typed back, if it is one: then no question mark may stand for letters. `leave` takes the words of a paper that the
-    owner begins again or leaves out. `takes_several` says that several papers may be pasted at once."""
+    """Reads papers. `counting` tells how many words a paper has, as far as that is known. `task` has its own words for some refusals.
+    `show` shows the paper again that is typed back, if it is one: then no question mark may stand for letters. `leave` takes the words of
+    a paper that the owner begins again or leaves out. `takes_several` says that several papers may be pasted at once."""
 
     def __init__(
         self,
         screen: Screen,
-        wanted: Optional[int] = None,
+        counting: Counting = unknown,
         task: str = "",
         show: Optional[Callable[[], None]] = None,
         leave: Callable[[List[str]], None] = lambda words: None,
         takes_several: bool = False,
     ):
         self._takes_several = takes_several
-        self._screen, self.wanted, self._task, self._show, self._leave = screen, wanted, task, show, leave
+        self._screen, self._counting, self._task, self._show, self._leave = screen, counting, task, show, leave
         # What was typed so far, and by their numbers the words that a question mark has taken the place of.
         self._marks: List[str] = []
         self.replaced: Dict[int, str] = {}
-        self._list = shamir.words("")
         # Whether the owner was told that many words aren't in the list.
         self._is_told = False
         # Whether the owner was asked for words that follow, and typed some.
@@ -113,33 +111,15 @@ class Entry:
 
     def _one_of(self, text: str) -> str:
         """Returns the only paper that was typed or pasted, or the first of several. Raises Pasted if several may be taken."""
-        texts = papers_in(text, self.wanted)
+        texts = papers_in(text, self._counting([]))
         if len(texts) > 1:
             if self._takes_several:
                 raise Pasted(texts)
             self._screen.tell_seen(say("paste.only", papers=counted(len(texts), "paper")))
         return texts[0] if texts else text
 
-    def judged(self, text: str) -> Tuple[Optional[Paper], str]:
-        """Returns the paper that a text is, or why it is none that is sound."""
-        marks, misplaced = placed([], parts_of(text))
-        words = [self._read(mark) or "" for mark in marks]
-        count = len(words)
-        if misplaced:
-            return None, say("paste.gap", number=misplaced[0].number)
-        for number, (mark, word) in enumerate(zip(marks, words), 1):
-            if not mark:
-                return None, say("paste.gap", number=number)
-            if not word:
-                return None, self._unknown(number, mark)
-        refusal = self._refused(words)
-        if refusal is not None:
-            is_count = refusal.code == shamir.Code.WORD_COUNT or self.wanted not in (None, count)
-            return None, said_count(count, self.wanted) if is_count else said_refusal(refusal, self._task)
-        return (None, say("paste.open")) if "?" in " ".join(words) else (paper_of(" ".join(words)), "")
-
     def _ask(self, prompt: str, begun: str = "", has_back: bool = False) -> str:
-        return self._screen.ask(prompt, lambda letters: beginning(self._list, letters), has_back, begun)
+        return self._screen.ask(prompt, shamir.words, has_back, begun)
 
     def _asked(self, prompt: str, begun: str = "", is_continued: bool = False) -> str:
         """Asks for a part of a paper. The owner may begin the paper again instead. `is_continued` says that words may follow."""
@@ -154,9 +134,9 @@ class Entry:
     def _heed_others(self, text: str, is_continued: bool) -> None:
         """If other papers are pasted where a part of this one is asked for, raises Pasted with this one and all that are pasted.
         `is_continued` says that this one may go on before them."""
-        texts = papers_in(f"{text}\n{self._screen.ahead(PASTE_MAX)}", self.wanted)
+        texts = papers_in(f"{text}\n{self._screen.ahead(PASTE_MAX)}", self._counting(self._marks))
         marks = [[mark for _, mark in parts_of(it)] for it in texts]
-        if not any(self._is_other(it) and self.judged(text)[0] is not None for text, it in zip(texts, marks)):
+        if not any(self._is_other(it) and judged(text, self._counting)[0] is not None for text, it in zip(texts, marks)):
             return
         self._screen.pasted(PASTE_MAX)
         begun = " ".join(f"{number} {mark}" for number, mark in enumerate(self._marks, 1) if mark)
@@ -171,7 +151,7 @@ class Entry:
         return len(marks) < LEAST or not resembles(self._words(marks), self._words(self._marks))
 
     def _words(self, marks: Sequence[str]) -> List[str]:
-        return [read(self._list, mark) or mark for mark in marks if mark]
+        return [read(mark) or mark for mark in marks if mark]
 
     def _tell_other(self, parts: Sequence[Part]) -> None:
         """Takes note of the paper that was begun, and says that it isn't taken, if another one has taken its place."""
@@ -219,33 +199,12 @@ class Entry:
             if "" in marks:
                 marks = self._filled(marks)
                 continue
-            refusal = self._refused(marks)
+            refusal, wanted = refused(marks), self._counting(marks)
             if refusal is None:
                 return marks
-            is_whole = self.wanted in (None, len(marks)) and refusal.code != shamir.Code.WORD_COUNT
-            is_over = self.wanted is not None and len(marks) > self.wanted
-            marks = self._corrected(marks, refusal) if is_whole else self._shortened(marks) if is_over else self._more(marks)
-
-    def _refused(self, marks: Sequence[str]) -> Optional[shamir.Refusal]:
-        """Returns why the library refuses these marks, or None."""
-        line = " ".join(marks)
-        try:
-            if "?" in line:
-                shamir.repair(line)
-            else:
-                paper_of(line)
-        except shamir.Refusal as refusal:
-            if refusal.code != shamir.Code.BAD_CHECKSUM or "?" in line:
-                return refusal
-            return self._place(line, refusal)
-        return None
-
-    def _place(self, line: str, refusal: shamir.Refusal) -> shamir.Refusal:
-        try:
-            find_fault(line)
-        except shamir.Refusal as found:
-            return found
-        return refusal
+            is_whole = wanted in (None, len(marks)) and refusal.code != shamir.Code.WORD_COUNT
+            is_over = wanted is not None and len(marks) > wanted
+            marks = self._corrected(marks, refusal) if is_whole else self._shortened(marks, wanted) if is_over else self._more(marks, wanted)
 
     def _filled(self, marks: List[str]) -> List[str]:
         """Asks for the words whose numbers were left out."""
@@ -253,13 +212,13 @@ class Entry:
         text = self._asked(say("entry.gap", count=count, last=len(marks), numbers=said_empty(marks), sign=DROP))
         return self._placed(marks, parts_of(text))
 
-    def _more(self, marks: List[str]) -> List[str]:
+    def _more(self, marks: List[str], wanted: Optional[int]) -> List[str]:
         """Asks for the words that follow. If there are none, the owner sees what was typed. If there may be too many, a number alone takes
         that word out. If all are taken out, the paper is begun again."""
         if not marks:
             raise Begun
-        key = "entry.on.many" if not self.wanted and len(marks) > FEW else "entry.on"
-        text = self._asked(say(key, typed=said_count(len(marks), self.wanted), number=len(marks) + 1, sign=DROP), is_continued=True)
+        key = "entry.on.many" if not wanted and len(marks) > FEW else "entry.on"
+        text = self._asked(say(key, typed=said_count(len(marks), wanted), number=len(marks) + 1, sign=DROP), is_continued=True)
         parts, numbers = parts_of(text), numbers_of(text)
         if numbers and key == "entry.on.many":
             return self._without(marks, numbers)
@@ -269,14 +228,14 @@ class Entry:
         self._is_continued = True
         return self._placed(marks, parts)
 
-    def _shortened(self, marks: List[str]) -> List[str]:
+    def _shortened(self, marks: List[str], wanted: Optional[int]) -> List[str]:
         """Asks which words are too many. As many words as a paper has take the place of all."""
         self._tell_typed(marks)
-        self._screen.fault(said_count(len(marks), self.wanted))
+        self._screen.fault(said_count(len(marks), wanted))
         while True:
             text = self._asked(say("entry.over", sign=DROP))
             parts = parts_of(text)
-            if len(parts) == self.wanted:
+            if len(parts) == wanted:
                 self._tell_other(parts)
                 return self._anew(parts)
             shorter = self._without(marks, numbers_of(text))
@@ -313,7 +272,7 @@ class Entry:
     def _tell_standard(self, marks: List[str]) -> None:
         """Says if marks are likely to be of a BIP-39 backup."""
         is_other = [self._read(mark) for mark in marks].count(None) * UNKNOWN_PART > len(marks)
-        if seems_bip39(self._list, marks):
+        if seems_bip39(marks):
             self._screen.fault(say("entry.bip39", count=len(marks)))
             if is_other:
                 raise Begun
@@ -325,12 +284,12 @@ class Entry:
         """Returns the word of a mark, or None if it stands for none. A place that is still empty stays so."""
         if not mark:
             return mark
-        return None if "?" in mark and self._show is not None else read(self._list, mark)
+        return None if "?" in mark and self._show is not None else read(mark)
 
     def _mended(self, marks: List[str], number: int) -> List[str]:
         """Asks for a word again that isn't one. Words that follow are taken too if they contradict none that was typed."""
         self._marks = marks
-        self._screen.fault(self._unknown(number, marks[number - 1]))
+        self._screen.fault(said_unknown(number, marks[number - 1], self._show is not None))
         mended = self._until_placed(self._prompt(number), lambda parts: continued(marks, number, parts), say("entry.one", number=number))
         self._note_replaced(marks, dict(enumerate(mended[:number], 1)))
         return mended
@@ -338,15 +297,6 @@ class Entry:
     def _note_replaced(self, marks: Sequence[str], new: Dict[int, str]) -> None:
         """Takes note of the words that question marks take the place of."""
         self.replaced |= {number: marks[number - 1] for number, mark in new.items() if mark.endswith("?") and marks[number - 1].isalpha()}
-
-    def _unknown(self, number: int, mark: str) -> str:
-        if "?" in mark:
-            return say("entry.mark" if self._show is None else "entry.mark.none", number=number, word=mark)
-        several = beginning(self._list, mark)
-        if several:
-            return say("entry.several", number=number, word=mark, nearest=", ".join(several[:8]))
-        near = nearest(self._list, mark)
-        return say("entry.unknown", number=number, word=mark, nearest=f" ({', '.join(near)}?)" if near else "")
 
     def _corrected(self, marks: List[str], refusal: shamir.Refusal) -> List[str]:
         """Says what is wrong, and asks for the words that are. The owner may also type words that follow, or begin again."""
@@ -356,7 +306,7 @@ class Entry:
             raise Begun
         if refusal.code == shamir.Code.BAD_CHECKSUM:
             count = len(marks)
-            if count != self.wanted:
+            if count != self._counting(marks):
                 self._screen.tell(say("entry.longer", count=count) if count in (FEW, MANY) else said_count(count, None))
             if self._is_continued:
                 self._screen.tell(say("entry.left_out", sign=DROP))
@@ -378,22 +328,6 @@ class Entry:
             return [new.get(number, mark) for number, mark in enumerate(marks, 1)]
         if len(parts) == count:
             return self._anew(parts)
-        if parts and count != self.wanted and numbers[0] in (None, count + 1) and all(self._read(mark) for _, mark in parts):
+        if parts and count != self._counting(marks) and numbers[0] in (None, count + 1) and all(self._read(mark) for _, mark in parts):
             return self._placed(marks, parts)
         return None
-
-
-def said_count(count: int, wanted: Optional[int]) -> str:
-    """Says how many words are typed, how many a paper has, and how many are missing or too many. `wanted` is how many this one has, if
-    that is known."""
-    typed = counted(count, "word")
-    if wanted:
-        words = counted(wanted, "word")
-        if count > wanted:
-            return say("entry.count.over", count=typed, words=words, excess=counted(count - wanted, "excess"))
-        return say("entry.count.wanted", count=count, words=words, missing=counted(wanted - count, "missing"))
-    if count < FEW:
-        return say("entry.count.few", count=typed, few=FEW, many=MANY, missing=counted(FEW - count, "missing"), others=MANY - count)
-    if count < MANY:
-        return say("entry.count.between", count=typed, few=FEW, many=MANY, excess=counted(count - FEW, "excess"), missing=counted(MANY - count, "missing"))
-    return say("entry.count.beyond", count=typed, few=FEW, many=MANY, excess=counted(count - MANY, "excess"))

@@ -5,8 +5,8 @@ from dataclasses import dataclass, field
 from typing import List, Tuple
 
 import shamir
-from shamir.papers.desk import BEGUN_LEAST, Desk
-from shamir.papers.entry import Entry
+from shamir.papers.desk import BEGUN_LEAST, Desk, Paper
+from shamir.papers.marks import judged
 from shamir.papers.refusals import said_foreign
 from shamir.papers.screen import Screen
 from shamir.papers.spelling import parts_of
@@ -18,11 +18,11 @@ BEGIN_WORDS = 4
 
 @dataclass
 class Judged:
-    """The names of papers that are taken, and of those that were here already; the begin of each other one, and why it isn't taken; and
-    the texts of those that the owner can mend."""
+    """The papers that are taken, and those that were here already; the begin of each other one, and why it isn't taken; and the texts of
+    those that the owner can mend."""
 
-    taken: List[str] = field(default_factory=list)
-    repeated: List[str] = field(default_factory=list)
+    taken: List[Paper] = field(default_factory=list)
+    repeated: List[Paper] = field(default_factory=list)
     faults: List[Tuple[str, str]] = field(default_factory=list)
     left: List[str] = field(default_factory=list)
 
@@ -32,39 +32,42 @@ def begin(text: str) -> str:
     return " ".join(word for _, word in parts_of(text)[:BEGIN_WORDS])
 
 
-def judge(desk: Desk, entry: Entry, texts: List[str]) -> Judged:
-    """Takes each paper that is sound and belongs to the others."""
-    judged = Judged()
+def judge_all(desk: Desk, texts: List[str]) -> Judged:
+    """Takes each paper that is sound, and that the library doesn't refuse beside the others."""
+    found = Judged()
     for text in texts:
-        why = _fault_of(desk, entry, text, judged)
+        why = _fault_of(desk, text, found)
         if why:
-            judged.faults.append((begin(text), why))
-    return judged
+            found.faults.append((begin(text), why))
+    return found
 
 
-def _fault_of(desk: Desk, entry: Entry, text: str, judged: Judged) -> str:
+def _fault_of(desk: Desk, text: str, found: Judged) -> str:
     """Takes a paper, or returns why it isn't taken. A few words are no paper to be mended."""
     words = [word for _, word in parts_of(text)]
-    entry.wanted = len(desk.papers[0].words) if desk.papers else None
-    paper, why = entry.judged(text)
+    paper, why = judged(text, desk.word_count)
     if paper is None:
         desk.leave_out(words)
-        judged.left += [text] if len(words) >= BEGUN_LEAST else []
+        found.left += [text] if len(words) >= BEGUN_LEAST else []
         return why
+    doubtful = [it.name for it in desk.doubtful(paper)]
     try:
-        (judged.taken if desk.add(paper) else judged.repeated).append(paper.name)
+        (found.taken if desk.add(paper) else found.repeated).append(paper)
         return ""
     except shamir.Refusal as refusal:
         desk.leave_out(paper.words)
-        return said_foreign(refusal, [it.name for it in desk.papers if it.is_repaired])
+        return said_foreign(refusal, doubtful)
 
 
-def tell_judged(screen: Screen, judged: Judged) -> None:
-    """Says what is taken, and what isn't."""
-    for key, names in [("paste.taken", judged.taken), ("paste.repeated", judged.repeated)]:
-        if names:
-            screen.tell(say(key, names=", ".join(names)))
-    if not judged.taken and not judged.repeated:
+def tell_judged(screen: Screen, desk: Desk, found: Judged) -> None:
+    """Says what is taken, of which backup it is if papers of several are here, and what isn't taken."""
+    rows = [("paste.taken", "paste.taken.backup", found.taken), ("paste.repeated", "paste.repeated.backup", found.repeated)]
+    for only, several, papers in rows:
+        for here in desk.backups.values():
+            names = [paper.name for paper in papers if paper.id == here[0].id]
+            if names:
+                screen.tell(say(several if desk.others else only, names=", ".join(names), begin=here[0].opening))
+    if not found.taken and not found.repeated:
         screen.tell(say("paste.none"), "bad")
-    for first, why in judged.faults:
+    for first, why in found.faults:
         screen.tell(say("paste.left", begin=first, why=why), "bad")

@@ -6,7 +6,7 @@ from typing import Dict, List, Optional
 
 import shamir
 from shamir.papers.screen import Screen
-from shamir.papers.spelling import HEADING, LEAST, MOST, beginning, parts_of, placed, read
+from shamir.papers.spelling import HEADING, LEAST, MOST, parts_of, placed, read
 from shamir.papers.terminal import PASTE_SECONDS
 from shamir.papers.texts import say
 
@@ -26,10 +26,9 @@ class Pasted(Exception):
 
 def ask_whole(screen: Screen, prompt: str, has_back: bool = False) -> str:
     """Asks for a paper, and returns all lines that are pasted. What follows the last end of a line stands behind the question again."""
-    words = shamir.words("")
 
     def ask(begun: str) -> str:
-        return screen.ask(prompt, lambda letters: beginning(words, letters), has_back, begun)
+        return screen.ask(prompt, shamir.words, has_back, begun)
 
     text = ask("")
     while screen.is_pasted(PASTE_SECONDS):
@@ -51,7 +50,6 @@ class _Lines:
         # How many words are in the lines before each one.
         self._before = [0, *itertools.accumulate(self._counts)]
         self._tries = TRIES_MAX
-        self._list = shamir.words("")
         self._known: Dict[str, Optional[str]] = {}
         self._is_known = [all(self._word(mark) for _, mark in parts) for parts in self._parts]
 
@@ -119,7 +117,7 @@ class _Lines:
     def _word(self, mark: str) -> Optional[str]:
         """Returns the word that a mark stands for, or None."""
         if mark not in self._known:
-            word = read(self._list, mark) if mark else None
+            word = read(mark) if mark else None
             self._known[mark] = None if word is None or "?" in word else word
         return self._known[mark]
 

@@ -108,10 +108,15 @@ def _singles(plan: Plan) -> List[int]:
     return [at for at, (needed, _) in enumerate(plan.groups) if needed == 1]
 
 
-def said_survives(plan: Plan) -> str:
-    """Says how many papers may be lost or stolen, whichever they are, so that the others are enough, and a thief hasn't enough."""
+def survived(plan: Plan) -> Tuple[int, int]:
+    """Returns how many papers may be lost, whichever they are, so that the others are enough, and stolen, so that a thief hasn't enough."""
     lost = sum(sorted(members - needed + 1 for needed, members in plan.groups)[: len(plan.groups) - plan.needed + 1]) - 1
-    stolen = sum(sorted(needed for needed, _ in plan.groups)[: plan.needed]) - 1
+    return lost, sum(sorted(needed for needed, _ in plan.groups)[: plan.needed]) - 1
+
+
+def said_survives(plan: Plan) -> str:
+    """Says how many papers may be lost or stolen."""
+    lost, stolen = survived(plan)
     return " ".join([*_survived("lost.safe", lost), *_survived("stolen.safe", stolen)])
 
 

@@ -86,8 +86,12 @@ def _computed(desk: Desk, name: str, plan: Plan) -> Union[Paper, str]:
     except shamir.Refusal as refusal:
         if refusal.code != shamir.Code.UNDETERMINED:
             return said_refusal(refusal)
-        task = "only" if len(plan.groups) == 1 else "all" if plan.needed == len(plan.groups) else ""
-        return f"{say('which.untold', name=name)} {said_refusal(refusal, task)}"
+        return f"{say('which.untold', name=name)} {said_refusal(refusal, _task_of(plan))}"
+
+
+def _task_of(plan: Plan) -> str:
+    """Returns whose words say what a paper takes that can't be written: of one group, of groups that are all needed, or of others."""
+    return "only" if len(plan.groups) == 1 else "all" if plan.needed == len(plan.groups) else ""
 
 
 def _drill(screen: Screen, desk: Desk) -> Optional[str]:

@@ -48,7 +48,7 @@ def show_paper(screen: Screen, shown: Shown) -> None:
 
 def type_back(screen: Screen, desk: Desk, shown: Shown) -> None:
     """Lets the owner type a paper back until it is right, and see it again meanwhile. Then it is one of those that were typed."""
-    paper = shown.paper
+    paper, count = shown.paper, len(shown.paper.words)
 
     def begin() -> None:
         screen.clear(shown.title("back.title"))
@@ -60,7 +60,7 @@ def type_back(screen: Screen, desk: Desk, shown: Shown) -> None:
 
     begin()
     screen.tell(say("entry.how.whole"))
-    entry = Entry(screen, len(paper.words), "back", show_again)
+    entry = Entry(screen, lambda marks: count, "back", show_again)
     while True:
         marks = entry.read(say("back.ask", name=paper.name))
         if not marks:

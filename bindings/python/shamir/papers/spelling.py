@@ -1,18 +1,19 @@
 """What was typed or pasted, as words; and words of the list that look like another word."""
 from __future__ import annotations
 
-import difflib
 import re
 from dataclasses import dataclass, field
 from typing import Dict, Iterator, List, Optional, Sequence, Tuple
+
+import shamir
 
 # A BIP-39 backup most often has one of these numbers of words.
 BIP39_COUNTS = (12, 24)
 # At least one of so many of its words isn't in the list, unlike those of half a paper that is typed with a slip.
 BIP39_PART = 4
 NEAREST_MAX = 3
-# How alike two words must be, from 0 to 1, so that one is named for the other.
-LIKENESS = 0.6
+# A word is named for another one if at most this part of its letters differs.
+DIFFERENT_MOST = 0.4
 DROP = "-"
 TAKEN_OUT = re.compile(r"-\s*(\d+\.\d+)")
 # What stands above the words of a paper. 'paper' is a word of the list too.
@@ -117,27 +118,42 @@ def taken_out(text: str) -> Optional[str]:
     return found[1] if found else None
 
 
-def beginning(words: Sequence[str], letters: str) -> List[str]:
-    """Returns the words of the list that begin with these letters."""
-    return [word for word in words if word.startswith(letters)]
-
-
-def read(words: Sequence[str], mark: str) -> Optional[str]:
+def read(mark: str) -> Optional[str]:
     """Returns the word that a mark stands for, or the mark if its letters stand for some words. If it is neither, returns None."""
-    if mark in words:
-        return mark
     if mark.endswith("?"):
-        return mark if beginning(words, mark[:-1]) else None
-    found = beginning(words, mark)
-    return found[0] if len(found) == 1 else None
+        return mark if shamir.words(mark[:-1]) else None
+    found = shamir.words(mark)
+    return mark if mark in found else found[0] if len(found) == 1 else None
 
 
-def nearest(words: Sequence[str], word: str) -> List[str]:
+def nearest(word: str) -> List[str]:
     """Returns words of the list that look like a word that isn't in it, the nearest first. They are named, and never taken."""
     letters = word.replace("?", "")
-    return difflib.get_close_matches(letters, words, NEAREST_MAX, LIKENESS) or beginning(words, letters[:3])[:NEAREST_MAX] if letters else []
+    if not letters:
+        return []
+    rows = sorted((_far(letters, it), it) for it in shamir.words(""))
+    alike = [it for far, it in rows if far <= DIFFERENT_MOST * len(letters)]
+    return (alike or shamir.words(letters[:3]))[:NEAREST_MAX]
 
 
-def seems_bip39(words: Sequence[str], marks: Sequence[str]) -> bool:
+def _far(letters: str, word: str) -> float:
+    """Returns how far letters are from a word. Four letters identify a word, so one that was cut short is near to those that begin so."""
+    return min(distance(letters, word), distance(letters, word[: len(letters)]) + 0.5)
+
+
+def distance(one: str, other: str) -> int:
+    """Returns how many letters must be added, left out, changed or exchanged with their neighbour to turn one word into the other."""
+    rows: List[List[int]] = [[*range(len(other) + 1)]]
+    for i, letter in enumerate(one, 1):
+        row = [i]
+        for j, its in enumerate(other, 1):
+            least = min(rows[-1][j] + 1, row[-1] + 1, rows[-1][j - 1] + (letter != its))
+            is_exchanged = i > 1 and j > 1 and letter == other[j - 2] and one[i - 2] == its
+            row.append(min(least, rows[-2][j - 2] + 1) if is_exchanged else least)
+        rows.append(row)
+    return rows[-1][-1]
+
+
+def seems_bip39(marks: Sequence[str]) -> bool:
     """Whether marks are likely to be a BIP-39 backup."""
-    return len(marks) in BIP39_COUNTS and sum(read(words, mark) is None for mark in marks) * BIP39_PART >= len(marks)
+    return len(marks) in BIP39_COUNTS and sum(read(mark) is None for mark in marks) * BIP39_PART >= len(marks)

@@ -170,8 +170,11 @@ OWN: Dict[str, str] = {
     "what.repaired": "Words of paper {name} were found and not read, so only a drill shows whether it is right.",
     "entry.drop": "To take a paper out again, type {sign} and its name, such as {sign}{name}.",
     "entry.drop.none": "No paper {name} is here.",
+    "entry.drop.which": "Which paper {name} is to be taken out (0: none)?",
     "paste.taken": "Pasted, sound and taken: {names}.",
+    "paste.taken.backup": "Pasted, sound and taken, of the papers that begin with '{begin}': {names}.",
     "paste.repeated": "Pasted, and here already: {names}.",
+    "paste.repeated.backup": "Pasted, and here already, of the papers that begin with '{begin}': {names}.",
     "paste.none": "None of the pasted papers is taken.",
     "paste.left": "Not taken: the paper that begins with '{begin}'. {why}",
     "paste.cut": "More was pasted than all papers of a backup have. What comes after '{end}' isn't taken.",
@@ -181,6 +184,9 @@ OWN: Dict[str, str] = {
     "paste.open": "Words of it are open.",
     "paste.only": "You pasted {papers}. Only one is asked for here, so only the first is read. The others aren't taken.",
     "collect.dropped": "Paper {name} is taken out.",
+    "backup.paper": "{name} ({begin})",
+    "backup.which": "These papers are of several backups. Which one do you mean? The papers of the others stay here, and are left out.",
+    "backup.choose": "The number of a backup (b: type more papers):",
     "word.one": "1 word",
     "word.many": "{n} words",
     "missing.one": "1 word is missing",
@@ -216,7 +222,6 @@ OWN: Dict[str, str] = {
     "replace.choose.none": "d: try the papers together. b: back.",
     "replace.new.choose": "c: change the plan now. e: end. b: back.",
     "which.ask.needed": "How many papers of group {group} are needed (1 to 16; b: back)?",
-    "which.beyond": "This backup has {groups}, and groups count from 0.",
     "replace.how": "1 or 2 (b: back):",
     "damaged.intro": "Type the words that you can read. You may leave up to 3 words open. A question mark stands for what you can't read.",
     "damaged.ask": "The damaged paper (b: back):",
@@ -254,9 +259,9 @@ def one_or_many(things: Sized) -> str:
 
 
 def said_time(seconds: float) -> str:
-    """Returns a time in words."""
+    """Returns a time in words. Halves are rounded up."""
     if seconds < 1:
         return say("time.short")
     if seconds < 90:
-        return counted(round(seconds), "second")
-    return counted(round(seconds / 60), "minute") if seconds < 5400 else counted(round(seconds / 3600), "hour")
+        return counted(int(seconds + 0.5), "second")
+    return counted(int(seconds / 60 + 0.5), "minute") if seconds < 5400 else counted(int(seconds / 3600 + 0.5), "hour")

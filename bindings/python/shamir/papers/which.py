@@ -57,8 +57,7 @@ def _ask_name(screen: Screen, desk: Desk, status: shamir.Status, count: int) -> 
         typed = screen.ask(say("replace.choose" if count > 1 else "replace.choose.only"), has_back=True).strip().lower()
         if typed == DRILL:
             return None
-        found = NAME.fullmatch(typed)
-        wrong = _fault_of(found, status, count)
+        found, wrong = NAME.fullmatch(typed), _fault_of(typed, status, count)
         if found is None or wrong:
             screen.fault(wrong)
             continue
@@ -67,8 +66,9 @@ def _ask_name(screen: Screen, desk: Desk, status: shamir.Status, count: int) -> 
         return f"{group}.{member}", _plan_with(desk, status, group, needed)
 
 
-def _fault_of(found: Optional[re.Match[str]], status: shamir.Status, count: int) -> str:
+def _fault_of(typed: str, status: shamir.Status, count: int) -> str:
     """Returns why what was typed isn't the name of a missing paper, or nothing."""
+    found = NAME.fullmatch(typed)
     if found is None or int(found[2]) >= MEMBERS_MAX or (found[1] is None and count > 1):
         return say("which.name.wrong")
     group, name = int(found[1] or 0), f"{int(found[1] or 0)}.{int(found[2])}"
