@@ -41,7 +41,11 @@ fn expect_progress(
         (quiet, plain.as_slice()),
         "{words:?}"
     );
-    assert_eq!(rt; (untold.calls(), said.text()), (0, wanted.as_bytes()), "{words:?}");
+    assert_eq!(rt;
+        (untold.calls(), said.text()),
+        (0, wanted.as_bytes()),
+        "{words:?}"
+    );
     Ok(())
 }
 
@@ -124,7 +128,13 @@ fn lists_on_where_its_number_cant_be_told(rt: HostRuntime) -> Result<(), Fail> {
     let words = ["shamir", "drill", "--passphrase=TREZOR"];
     let mut output = Vec::new(alloc);
     let run_of = (words.as_slice(), five.as_str(), TOLD);
-    let status = run(alloc, run_of, &mut output, &mut Screen::Full, &mut Screen::Full);
+    let status = run(
+        alloc,
+        run_of,
+        &mut output,
+        &mut Screen::Full,
+        &mut Screen::Full,
+    );
     assert_eq!(rt;
         (status, output.as_slice()),
         (0, drilled(alloc)?.as_bytes())

@@ -53,7 +53,13 @@ fn expect_said(
 ) -> Result<(), Fail> {
     let (mut said, mut progress) = (Screen::new(alloc), Screen::Full);
     let run_of = (words, input, terminals);
-    let answer = run(alloc, run_of, &mut Vec::new(alloc), &mut said, &mut progress);
+    let answer = run(
+        alloc,
+        run_of,
+        &mut Vec::new(alloc),
+        &mut said,
+        &mut progress,
+    );
     let mut all = String::new(alloc);
     for line in wanted {
         all.push_str(line)?;
@@ -284,7 +290,13 @@ fn keeps_its_answer_where_nothing_can_be_said(rt: HostRuntime) -> Result<(), Fai
     ] {
         let mut all = Vec::new(alloc);
         let run_of = (words, input, TYPED);
-        let told = run(alloc, run_of, &mut all, &mut Screen::new(alloc), &mut Screen::Full);
+        let told = run(
+            alloc,
+            run_of,
+            &mut all,
+            &mut Screen::new(alloc),
+            &mut Screen::Full,
+        );
         assert_eq!(rt; (told, all.is_empty()), (0, false));
         // The first line fails, and the lines behind it are said. Or no line is taken.
         for (mut errors, said) in [(Screen::after(1, alloc), calls), (Screen::Full, 0)] {
