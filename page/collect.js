@@ -13,7 +13,12 @@ import { ask, show } from "./screen.js";
 /** @typedef {import("./paper_entry.js").Answer} Answer */
 
 /** @typedef {{status: Status, kinds: Kind[]}} Collected the papers of the backup that the owner goes on with */
-/** @typedef {{task?: string, onDamaged?: (() => void) | null}} More `task` has its own words for what is enough. `onDamaged` is called before the end if the owner has another damaged paper; without it, none is asked for */
+/**
+ * What a task adds: `task` has its own words for what is enough, and `onDamaged` is called before the end if the owner has another damaged
+ * paper. Without it, none is asked for.
+ *
+ * @typedef {{task?: string, onDamaged?: (() => void) | null}} More
+ */
 /** @typedef {{button: HTMLButtonElement, place: HTMLElement}} End the button that goes on with a backup, and where it stands */
 
 /**

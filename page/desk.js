@@ -14,7 +14,10 @@ import { selfTest } from "./self_test.js";
 /** @typedef {{complete: number, required: number, enough: boolean, groups: GroupStatus[]}} Standing what is complete */
 /** @typedef {Standing & {quorums: bigint}} Status */
 /** @typedef {{names: string[], fingerprint: string | null, expected: boolean | null, mismatch: number | null}} Tried */
-/** @typedef {{name: string, words: number, begin: string, id: number, secretBytes: number, exponent: number, extendable: boolean, groupCount: number, groupThreshold: number, memberThreshold: number, isPossible: boolean, isRepaired: boolean, isWritten: boolean}} Kind what a paper is, its first words, and whether words of it were found, or it was written again from others */
+/** @typedef {{groupCount: number, groupThreshold: number, memberThreshold: number}} Counts */
+/** @typedef {{id: number, secretBytes: number, exponent: number, extendable: boolean}} Parameters */
+/** @typedef {{isPossible: boolean, isRepaired: boolean, isWritten: boolean}} Found whether a backup can have a paper, and whether words of it were found, or it was written again from others */
+/** @typedef {Counts & Parameters & Found & {name: string, words: number, begin: string}} Kind what a paper is. `begin` is its first words */
 /** @typedef {{id: number, begin: string, kinds: Kind[], status: Status}} Backup the papers of a backup, all of which begin with the same words */
 /** @typedef {{unsound: number, names: string[], apart: {begin: string, names: string[]}[]}} LeftOut */
 /** @typedef {"" | "repaired" | "written"} How how the papers that are shown were made: as new ones, by words that were found, or from others */

@@ -66,7 +66,7 @@ FAULTS = [
     ("the same, looked for in the profile", "page/dom.js", '  autocomplete: "off",\n', "", lambda folder, url: privacy.check("chromium", url)),
     ("a policy that lets requests out", "shamir.html", "connect-src 'none'", "connect-src http:", lambda folder, url: ways_out.check("chromium", url)),
     ("letters of the last word are awaited after its space", "page/word_field.js", "    this.#moved();\n    if (!isBefore", "    if (!isBefore", of_page(lambda page: typists.check(page, unseen, 40, ["in turn, space"]))),
-    ("papers that aren't cleared", "page/backups.js", "    this.#papers.clear();\n    this.#rest = {", "    this.#rest = {", of_page(agreement.check_memory)),
+    ("papers that aren't cleared", "page/backups.js", "    this.#papers.clear();\n    this.#rest = {", "    this.#papers = new Papers(this.#engine);\n    this.#rest = {", of_page(agreement.check_memory)),
     ("a paper that was left out isn't cleared", "page/backups.js", "zero(...dropped, ...left,", "zero(...dropped,", of_page(agreement.check_memory)),
     ("a paper that was left out is forgotten", "page/backups.js", "if (error instanceof Refusal) this.leaveOut(", "if (false) this.leaveOut(", of_page(lambda page: astray.check_left_out(page, unseen))),
     ("a paper that no backup has is offered", "page/kind.js", "isPossible: share.groupIndex < share.groupCount", "isPossible: true", of_page(lambda page: astray.check_impossible(page, unseen))),
