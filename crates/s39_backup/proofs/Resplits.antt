@@ -372,20 +372,25 @@ module _ (set : List ShareFields) (group_threshold : ℕ) (groups : List Members
 
       by : (outcome : Result (List ℕ) Mismatch) × IsOutcome set names [] outcome
           → (result : Result (List ShareFields) ResplitError) × IsResplit set group_threshold groups random result
-      by (Err mismatch, is) = (Err (DigestMismatch mismatch), inr (record {
-        names = names;
-        old = params.0;
-        least = least;
-        old_are = params.1;
-        judged = ap (judged_split params.0 group_threshold groups random) is;
-      }))
+      by (Err mismatch, is) = (
+        Err (DigestMismatch mismatch),
+        inr (record {
+          names = names;
+          old = params.0;
+          least = least;
+          old_are = params.1;
+          judged = ap (judged_split params.0 group_threshold groups random) is;
+        }),
+      )
       by (Ok secret, recovers) =
           let kept = keeps [] recovers.params secret recovers.encrypted recovers.secret_is in
           let bytes : AreBytes secret = kept.2 (encrypted_like set names quorum recovers.encrypted recovers.combined).1 in
           let (result, creation) = some_creation group_threshold groups random recovers.params recovers.encrypted secret recovers.secret_is keeps
-          encrypts_once (length_of names secret least.quorum recovers) bytes create in
-          (result, set_gives set group_threshold groups random names recovers.params recovers.encrypted least recovers.params_are recovers.combined
-          result creation)
+          encrypts_once (length_of names secret least.quorum recovers) bytes create in (
+            result,
+            set_gives set group_threshold groups random names recovers.params recovers.encrypted least recovers.params_are recovers.combined
+                result creation,
+          )
 
   module _ (once : (names others : Names) → IsLeastQuorum set names → IsLeastQuorum set others → names ≡ others)
       (created_once : (asked : Asked) (shares other : List ShareFields) → IsCreatedFrom asked random shares → IsCreatedFrom asked random other

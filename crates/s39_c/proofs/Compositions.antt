@@ -187,9 +187,12 @@ module _ (lines : List ℕ) (before after : ShamirParameters) (buffer filled : L
   given_secret (inr (encrypted, (is, fills), inl (fits, bytes, says))) =
       let count : n ≡ length encrypted.1 = ap (λ (a : ShamirAnswer). a.written) says in
       let low : n ≤ length encrypted.1 = omega (arith, count) in
-      let high : length encrypted.1 ≤ n = omega (arith, count) in
-      (encrypted, is, fills,
-      ap (take n) bytes ∙ take-append-le n encrypted.1 (drop (length encrypted.1) buffer) low ∙ take_all n encrypted.1 high)
+      let high : length encrypted.1 ≤ n = omega (arith, count) in (
+        encrypted,
+        is,
+        fills,
+        ap (take n) bytes ∙ take-append-le n encrypted.1 (drop (length encrypted.1) buffer) low ∙ take_all n encrypted.1 high,
+      )
 
   module _ (same_outputs : (threshold : ℕ) (groups : List Members) (random : List ℕ) (encrypted : Params × List ℕ) (text : List ℕ)
       (answer : Result (Unit {0}) Fault) → IsEncryptedIn (whole lines) (Ok encrypted)
@@ -226,5 +229,5 @@ module _ (lines : List ℕ) (before after : ShamirParameters) (buffer filled : L
         let (encrypted, is, are, bytes) = given_secret given in (
           λ split. inr (encrypted.0, are, subst (λ (b : List ℕ). SplitOf encrypted.0 b) (sym bytes) ((of_secret encrypted is).0 split)),
           λ split. (of_secret encrypted is).1 (by_parameters encrypted.0 encrypted.1 are
-          (subst (λ (b : List ℕ). GivesFromEncrypted after b random plan old new answer) bytes split)),
+              (subst (λ (b : List ℕ). GivesFromEncrypted after b random plan old new answer) bytes split)),
         )

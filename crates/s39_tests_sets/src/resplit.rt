@@ -354,8 +354,9 @@ fn splits(rt: &impl Abort) -> Result<(), Fail> {
 }
 
 fn splits_encrypted(rt: &impl Abort) -> Result<(), Fail> {
-    let encrypted =
-        check_secret(b"\x14\xd7\x86\xbd\xb0\x0a\x6f\xef\x14\x16\x3f\x4e\xc9\x9b\xf2\x60")?;
+    let encrypted = check_secret(
+        b"\x14\xd7\x86\xbd\xb0\x0a\x6f\xef\x14\x16\x3f\x4e\xc9\x9b\xf2\x60",
+    )?;
     let old = Params {
         id: 7945,
         extendable: true,
