@@ -79,7 +79,7 @@ module _ (group_threshold : ℕ) (groups : List Members) (random : List ℕ) (se
     lacking lack lacks (Ok shares) split = absurd (no_lack set split.names lack split.least.quorum lacks)
     lacking lack lacks (Err error) (inl (other, also, same)) =
         ap (λ (e : ResplitError). Err e) (same ∙ ap (λ (l : SetLack). unsplit.Lack l) (one_lack set other lack also lacks))
-    lacking lack lacks (Err error) (inr refused) = absurd (no_lack set refused.names lack refused.least.quorum lacks)
+    lacking lack lacks (Err error) (inr no_split) = absurd (no_lack set no_split.names lack no_split.least.quorum lacks)
 
     mismatched : (names : Names) (mismatch : Mismatch) → IsLeastQuorum set names → combination_of set names ≡ Err mismatch
         → (result : Result (List ShareFields) ResplitError) → IsResplit set group_threshold groups random result
@@ -88,12 +88,13 @@ module _ (group_threshold : ℕ) (groups : List Members) (random : List ℕ) (se
         absurd (let differ : Err mismatch ≡ Ok split.encrypted =
         sym combines ∙ ap (combination_of set) (once names split.names least split.least) ∙ split.combined in cc)
     mismatched names mismatch least combines (Err error) (inl (lack, lacks, same)) = absurd (no_lack set names lack least.quorum lacks)
-    mismatched names mismatch least combines (Err error) (inr refused) =
-        let combination : combination_of set refused.names ≡ Err mismatch =
-        ap (combination_of set) (once refused.names names refused.least least) ∙ combines in
+    mismatched names mismatch least combines (Err error) (inr no_split) =
+        let combination : combination_of set no_split.names ≡ Err mismatch =
+        ap (combination_of set) (once no_split.names names no_split.least least) ∙ combines in
         let both : Err error ≡ Err (unsplit.DigestMismatch mismatch) =
-        sym refused.judged ∙ ap (judged_split refused.old group_threshold groups random) combination in
-        both
+        sym no_split.judged ∙ ap (judged_split no_split.old group_threshold groups random) combination in
+        let cause : error ≡ unsplit.DigestMismatch mismatch = cc in
+        ap (λ (e : ResplitError). Err e) cause
 
     -- the result of a split of which this is the cause
     of_cause : (error : ResplitError) → ((split : Result (List ShareFields) ResplitError) → IsResplit set group_threshold groups random split
