@@ -57,10 +57,18 @@ def combined(reader, given):
     return {"encrypted": {"identifier": share["id"], "extendable": bool(share["extendable"]), "exponent": share["exponent"], "value": value.hex()}}
 
 
+def parameters(given):
+    return {"id": given["identifier"], "extendable": given["extendable"], "exponent": given["exponent"]}
+
+
 def decrypted(reader, given):
     reader.check_passphrase(given["passphrase"].encode())
-    params = {"id": given["identifier"], "extendable": given["extendable"], "exponent": given["exponent"]}
-    return {"secret": reader.decrypt(bytes.fromhex(given["value"]), given["passphrase"].encode(), params).hex()}
+    return {"secret": reader.decrypt(bytes.fromhex(given["value"]), given["passphrase"].encode(), parameters(given)).hex()}
+
+
+def created_from_encrypted(reader, given):
+    plan, value, random = reader.parse_plan(given["plan"]), bytes.fromhex(given["value"]), bytes.fromhex(given["random"])
+    return {"mnemonics": [reader.mnemonic(share) for share in reader.split_encrypted(plan, parameters(given), value, random)]}
 
 
 def created(reader, given):
@@ -77,6 +85,7 @@ def split_anew(reader, given):
 
 ASKED = {
     "parse": parsed, "recover": recovered, "quorums": drilled, "create": created, "resplit": split_anew, "encrypted": combined, "decrypt": decrypted,
+    "create_from_encrypted": created_from_encrypted,
 }
 
 

@@ -24,7 +24,7 @@ KINDS = one_mnemonic.KINDS | sets.KINDS | recovery.KINDS | resplits.KINDS | encr
 # So many of the cases that catch a mistake are listed. Those that the standard's rules decide come first.
 MOST_LISTED = 5
 # What a writer is asked.
-WRITTEN = ("create", "resplit")
+WRITTEN = ("create", "resplit", "create_from_encrypted")
 # BIP-32 makes keys of seeds of 16 to 64 bytes.
 MOST_SEED_BYTES = 64
 # No case is decrypted with a greater exponent, so that a reader is done in seconds.

@@ -1,7 +1,7 @@
-"""Cases about encrypted secrets: what mnemonics combine to, and what a passphrase makes of it."""
+"""Cases about encrypted secrets: what mnemonics combine to, what a passphrase makes of it, and new mnemonics of it."""
 import plain
 
-from backups import PASSPHRASE, backup, drawn, flipped, mnemonics
+from backups import PASSPHRASE, backup, drawn, flipped, mnemonics, sizes
 from case import Case
 
 SHARING = "Shamir's secret sharing"
@@ -54,6 +54,37 @@ def decryptions():
     yield decrypting("decrypted-accent", about, "a passphrase that isn't checked", passphrase="Z\u00fcrich", standard=PASSPHRASES)
 
 
+def splitting(id, about, finds, plan, *, number=7945, extendable=True, exponent=0, length=16, standard=SHARING, random=None):
+    """Returns a case of a backup of an encrypted secret. Its random bytes are drawn from its name, as many as are needed, unless they are given."""
+    random = drawn(f"{id}: random", plain.random_needed(sizes(plan), length)) if random is None else random
+    given = {"plan": plan, "identifier": number, "extendable": extendable, "exponent": exponent, "value": drawn(f"split: {length}", length).hex()}
+    return Case(id, "create_from_encrypted", about, finds, standard, given | {"random": random.hex()})
+
+
+def splits():
+    """Encrypted secrets that were kept, and are split by a plan."""
+    for name, plan, length in [("1of1", "1of1", 16), ("2of3", "2of3", 32), ("groups", "2/2of3,1of1,1of1", 18)]:
+        about = f"The plan is {plan}, and the encrypted secret has {length} bytes."
+        yield splitting(f"split-{name}", about, "an encrypted secret that is encrypted again, or has other fields", plan, length=length)
+    for exponent in (3, 15):
+        yield splitting(f"split-exponent-{exponent}", f"The exponent is {exponent}.", "an exponent that is lost", "2of2", exponent=exponent)
+    about = "The first random bit isn't in the identifier. The others give one that differs from the old one in its last bit."
+    given = bytes.fromhex("9235") + drawn("split-identifier: random", 12)
+    yield splitting("split-identifier", about, "an identifier of 16 bits, or that of the old backup", "2of3", number=0x1234, random=given)
+
+
+def refused_splits():
+    """Encrypted secrets that can't be split, and random bytes with which they aren't."""
+    about = "The backup isn't extendable, so with another identifier each passphrase would give another secret."
+    yield splitting("refused-splits-not-extendable", about, "a flag that isn't looked at", "2of3", extendable=False, standard=ENCRYPTION)
+    about, given = "The first two random bytes give the old identifier.", bytes.fromhex("9234") + drawn("refused-splits: random", 12)
+    finds = "mnemonics of two backups that have one identifier"
+    yield splitting("refused-splits-identifier", about, finds, "2of3", number=0x1234, standard=None, random=given)
+    for count in (13, 15):
+        about, given = f"{count} random bytes are given, and 14 are needed.", drawn("refused-splits: few", count)
+        yield splitting(f"refused-splits-{count}-random-bytes", about, "other random bytes than the caller thinks", "2of3", standard=None, random=given)
+
+
 def sealed():
     """Yields the id of each backup whose mnemonics combine, a quorum of it, and its encrypted secret."""
     for case in encrypted_secrets():
@@ -63,4 +94,4 @@ def sealed():
             yield case.id, [[backup[name] for name in first]], plain.combined(backup, first)
 
 
-KINDS = {"encrypted secrets": encrypted_secrets, "decryptions": decryptions}
+KINDS = {"encrypted secrets": encrypted_secrets, "decryptions": decryptions, "split secrets": splits, "refused split secrets": refused_splits}
