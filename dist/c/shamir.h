@@ -2,8 +2,8 @@
  * shamir.h: SLIP-0039 backups of a master secret, for C and C++. The manual page shamir(3) is made of these comments.
  *
  * The library creates backups, reads and judges mnemonics, recovers secrets and runs drills. It also reports whether mnemonics are
- * enough for a recovery, counts quorums, gives and decrypts encrypted secrets, computes lost mnemonics and fingerprints of secrets, splits a
- * backup anew by another plan, finds words that can't be read, and lists words of the word list. docs/LIBRARY.md introduces it with
+ * enough for a recovery, counts quorums, gives and decrypts encrypted secrets and creates backups of them, computes lost mnemonics and
+ * fingerprints of secrets, splits a backup anew by another plan, finds words that can't be read, and lists words of the word list. docs/LIBRARY.md introduces it with
  * examples.
  *
  * A backup consists of mnemonics, which are lines of words. A mnemonic spells a share, which has fields and a value: the bytes
@@ -70,6 +70,9 @@ extern "C" {
 
 /* The maximum number of mnemonics in a backup. */
 #define SHAMIR_MNEMONICS_MAX 256
+
+/* The maximum number of groups of a backup. */
+#define SHAMIR_GROUPS_MAX 16
 
 /* The maximum length of a line, without its line feed, for the calls that take lines. It applies to comments too. */
 #define SHAMIR_LINE_BYTES_MAX 1024
@@ -191,8 +194,8 @@ typedef enum shamir_code {
  * line is the number of the refused line, counted from 1, for the codes 11 to 28 and 71 of calls that take lines. Otherwise
  * it is 0. Only shamir_drill sets the field "mismatches"; in answers of other calls this field is 0. first and second are the
  * details of a refusal. After success, first is a result of shamir_random_needed, shamir_create, shamir_drill, shamir_status,
- * shamir_judge, shamir_quorums, shamir_resplit and shamir_repair, and second of shamir_drill, shamir_status and shamir_judge.
- * Otherwise they are 0.
+ * shamir_judge, shamir_quorums, shamir_resplit, shamir_create_from_encrypted and shamir_repair, and second of shamir_drill,
+ * shamir_status and shamir_judge. Otherwise they are 0.
  */
 typedef struct shamir_answer {
     uint32_t code;       /* a shamir_code: SHAMIR_DONE, or the cause of the refusal */
@@ -489,6 +492,54 @@ SHAMIR_CALL
 shamir_answer shamir_status(const char *lines, size_t lines_bytes, char *text, size_t text_bytes);
 
 /*
+ * What a status tells of one group.
+ *
+ * shamir_groups_of reads the lines of a status, which shamir_status or shamir_judge wrote, into groups, in the order of the lines.
+ * It returns how many groups there are: SHAMIR_GROUPS_MAX or fewer. It stands in the header alone.
+ *
+ *     shamir_group groups[SHAMIR_GROUPS_MAX];
+ *     size_t count = shamir_groups_of(text, (size_t)answer.written, groups);
+ */
+typedef struct shamir_group {
+    uint8_t group;     /* the group index */
+    uint8_t threshold; /* the member threshold */
+    uint16_t members;  /* bit M is 1 if member M is among the mnemonics */
+} shamir_group;
+SHAMIR_INLINE size_t shamir_groups_of(const char *text, size_t text_bytes, shamir_group *groups)
+{
+    /* A line is `group G members N of T NAMES`. Its numbers are G, N, T, and those of each name, group before member. */
+    size_t at = 0, count = 0;
+
+    while (at < text_bytes && text[at] != '\n') {
+        at++;
+    }
+    while (++at < text_bytes && count < SHAMIR_GROUPS_MAX) {
+        unsigned place = 0, number = 0;
+        shamir_group found = {0, 0, 0};
+
+        for (; at < text_bytes && text[at] != '\n'; at++) {
+            if (text[at] < '0' || '9' < text[at]) {
+                continue;
+            }
+            number = 10 * number + (unsigned)(text[at] - '0');
+            if (at + 1 < text_bytes && '0' <= text[at + 1] && text[at + 1] <= '9') {
+                continue;
+            }
+            if (place == 0) {
+                found.group = (uint8_t)number;
+            } else if (place == 2) {
+                found.threshold = (uint8_t)number;
+            } else if (place > 3 && place % 2 == 0) {
+                found.members = (uint16_t)(found.members | 1u << (number & 15u));
+            }
+            place++, number = 0;
+        }
+        groups[count++] = found;
+    }
+    return count;
+}
+
+/*
  * Judges a mnemonic beside those that came before it: whether it can be taken, whether it is there already, and what its backup
  * has with it.
  *
@@ -508,8 +559,9 @@ shamir_answer shamir_status(const char *lines, size_t lines_bytes, char *text, s
  * If the mnemonic itself is refused, the field line of the answer is 0. Otherwise it is the number of the first refused line of
  * lines. A line with another identifier is refused only if it isn't a mnemonic.
  *
- * The call refuses with the first of these that applies: 11 to 15 (line isn't a mnemonic), the code of the first refused line of
- * lines (11 to 15, 22 to 28, 71), 22 to 28 (the share of line can't join those of lines with its identifier), 1.
+ * The call refuses with the first of these that applies: 71 (line is too long), 11 to 15 (it isn't a mnemonic), the code of the
+ * first refused line of lines (11 to 15, 22 to 28, 71), 22 to 28 (the share of line can't join those of lines with its
+ * identifier), 1.
  *
  *     shamir_judgement judgement;
  *     char text[SHAMIR_STATUS_BYTES_MAX];
@@ -605,6 +657,37 @@ SHAMIR_CALL
 shamir_answer shamir_resplit(
     const char *plan, size_t plan_bytes, const char *lines, size_t lines_bytes, const uint8_t *random, size_t random_bytes, char *mnemonics,
     size_t mnemonics_bytes);
+
+/*
+ * Creates a backup of the encrypted secret of an extendable backup, by a plan, and gives its mnemonics.
+ *
+ * plan          the text of the plan, as for shamir_random_needed
+ * parameters    those that shamir_encrypted gave
+ * encrypted     the encrypted secret that it gave with them
+ * random        exactly as many bytes as shamir_random_needed says for this plan and encrypted_bytes; they must be unpredictable, and no
+ *               other backup may use them
+ * mnemonics     the output: the mnemonics in the order of groups and members, with a line feed after each; an output buffer of
+ *               SHAMIR_MNEMONICS_BYTES_MAX bytes is always enough
+ *
+ * After success, the field first of the answer is the number of mnemonics.
+ *
+ * The call needs no passphrase, and decrypts nothing. With each passphrase, the new backup gives the secret that shamir_decrypt gives
+ * of the encrypted one. shamir_encrypted and this call after it give what shamir_resplit gives: the flag and the exponent stay, and the
+ * identifier changes. So a backup without the flag is refused with 67, and random bytes that give the old identifier with 68.
+ *
+ * If the number of random bytes is wrong, the call refuses with 43, and first is the number, which is at least 2. If mnemonics is too
+ * short, the call refuses with 1, and first is the length of all mnemonics.
+ *
+ * The call refuses with the first of these that applies: 2 (a field of *parameters is out of its range), 31 to 34, 42 (encrypted_bytes),
+ * 67, 43, 68, 1.
+ *
+ *     shamir_answer answer = shamir_create_from_encrypted(
+ *         "3of5", 4, &parameters, encrypted, encrypted_bytes, random, random_bytes, mnemonics, sizeof mnemonics);
+ */
+SHAMIR_CALL SHAMIR_STRUCT(3)
+shamir_answer shamir_create_from_encrypted(
+    const char *plan, size_t plan_bytes, const shamir_parameters *parameters, const uint8_t *encrypted, size_t encrypted_bytes,
+    const uint8_t *random, size_t random_bytes, char *mnemonics, size_t mnemonics_bytes);
 
 /*
  * Finds the mnemonics that fit a line of which some words can't be read, or finds the place of a wrong word.

@@ -490,12 +490,16 @@ template <class Call> Answer<Status> status(const Call &call)
         return Refusal(answer);
     }
     Status status{answer.first, answer.second, {}};
-    for (const Text line : parts(Text(room, size_of(answer.written)), '\n')) {
-        /* After the first line, "groups C of R", come lines "group G members N of T NAMES". */
-        const auto words = parts(line, ' ');
-        if (words.size() > 6) {
-            status.groups.push_back({number(words[1]), number(words[5]), names(words[6])});
+    shamir_group groups[SHAMIR_GROUPS_MAX];
+    const std::size_t count = shamir_groups_of(room, size_of(answer.written), groups);
+    for (std::size_t at = 0; at < count; at++) {
+        Names names;
+        for (unsigned member = 0; member < 16; member++) {
+            if (groups[at].members >> member & 1) {
+                names.push_back({groups[at].group, member});
+            }
         }
+        status.groups.push_back({groups[at].group, groups[at].threshold, std::move(names)});
     }
     return status;
 }
@@ -546,19 +550,48 @@ inline Answer<Mnemonics> resplit(Text plan, Text lines, Bytes random)
     });
 }
 
-/* Splits a backup anew. draw is as for create. If its bytes give the old identifier, as one draw in 32,768 does, it draws others. */
-template <class Draw, class = detail::IfDraws<Draw>> Answer<Mnemonics> resplit(Text plan, Text lines, Draw &&draw)
+/* Creates a backup of an encrypted secret with these random bytes. */
+inline Answer<Mnemonics> create_from_encrypted(Text plan, const EncryptedSecret &secret, Bytes random)
 {
-    const auto needed = shamir_resplit(plan.data(), plan.size(), lines.data(), lines.size(), nullptr, 0, nullptr, 0);
+    return detail::mnemonics(SHAMIR_MNEMONICS_BYTES_MAX, [&](char *room, std::size_t size) {
+        return shamir_create_from_encrypted(
+            plan.data(), plan.size(), &secret, secret.value.data(), secret.value.size(), random.data(), random.size(), room, size);
+    });
+}
+
+namespace detail {
+
+/* Makes mnemonics of random bytes that are drawn, as many as a refusal needs. If they give the old identifier, as one draw in 32,768
+   does, it draws others. */
+template <class Draw, class Make> Answer<Mnemonics> with_other_identifier(const shamir_answer &needed, Draw &draw, const Make &make)
+{
     if (needed.code != SHAMIR_E_RANDOM_LENGTH) {
         return Refusal(needed);
     }
     for (int draws = 1;; draws++) {
-        auto made = resplit(plan, lines, Bytes(detail::drawn(needed.first, draw)));
+        auto made = make(Bytes(drawn(needed.first, draw)));
         if (made || made.error().code != SHAMIR_E_SAME_IDENTIFIER || draws == 10) {
             return made;
         }
     }
+}
+
+} // namespace detail
+
+/* Splits a backup anew. draw is as for create. If its bytes give the old identifier, it draws others. */
+template <class Draw, class = detail::IfDraws<Draw>> Answer<Mnemonics> resplit(Text plan, Text lines, Draw &&draw)
+{
+    const auto needed = shamir_resplit(plan.data(), plan.size(), lines.data(), lines.size(), nullptr, 0, nullptr, 0);
+    return detail::with_other_identifier(needed, draw, [&](Bytes random) { return resplit(plan, lines, random); });
+}
+
+/* Creates a backup of an encrypted secret. draw is as for create. If its bytes give the old identifier, it draws others. */
+template <class Draw, class = detail::IfDraws<Draw>>
+Answer<Mnemonics> create_from_encrypted(Text plan, const EncryptedSecret &secret, Draw &&draw)
+{
+    const auto needed = shamir_create_from_encrypted(
+        plan.data(), plan.size(), &secret, secret.value.data(), secret.value.size(), nullptr, 0, nullptr, 0);
+    return detail::with_other_identifier(needed, draw, [&](Bytes random) { return create_from_encrypted(plan, secret, random); });
 }
 
 /* Gives the mnemonics that fit a line with ? for what can't be read: one or two. */

@@ -1116,6 +1116,7 @@ static void check_reading(void)
     static const uint8_t chance[] = {0x12, 0x34};
     uint8_t value[SHAMIR_SECRET_BYTES_MAX];
     shamir_judgement judgement;
+    shamir_parameters parameters;
     shamir_share share;
     shamir_answer answer = shamir_parse(FIRST, strlen(FIRST) - 1, &share, value, sizeof value);
 
@@ -1135,6 +1136,9 @@ static void check_reading(void)
            "", 0, text, sizeof text), "0.0+0.1+1.0 " SECRET "\nend\n"));
     expect("shamir_reissue", wrote(shamir_reissue(PLAN, strlen(PLAN), "0.2", 3, four, strlen(four), text, sizeof text), THIRD));
     expect("shamir_resplit", wrote(shamir_resplit("1of1", 4, extendable, strlen(extendable), chance, sizeof chance, text, sizeof text), ANEW));
+    answer = shamir_encrypted(extendable, strlen(extendable), &parameters, value, sizeof value);
+    expect("shamir_create_from_encrypted", wrote(shamir_create_from_encrypted("1of1", 4, &parameters, value, (size_t)answer.written,
+           chance, sizeof chance, text, sizeof text), ANEW));
     expect("shamir_repair", wrote(shamir_repair(without, strlen(without), text, sizeof text), FIRST));
     expect("shamir_words", wrote(shamir_words("em", 2, text, sizeof text), EM));
 }
