@@ -179,7 +179,7 @@ void check_papers()
         const auto found = held.add(paper);
         expect("a paper", found && !found->again);
     }
-    const std::string spaced = "  " + std::string(lines[3]) + std::string(2000, ' ');
+    const std::string spaced = "  " + std::string(lines[3]) + std::string(700, ' ');
     const auto again = held.add(spaced);
     expect("a paper that is there", again && again->again && again->status.complete == 1);
     const auto other = held.add(conflicting);

@@ -48,8 +48,8 @@ test("papers are kept by their backup", async () => {
 
 test("a refused paper isn't kept, and others are kept in the spelling of the engine", async () => {
   const papers = new Papers(await open(MODULE));
-  papers.add(` ${FIVE[0].toUpperCase().replaceAll(" ", "\t  ")}${" ".repeat(2000)}`);
-  for (const [code, details, paper] of [[28, [0, 0], CONFLICTING], [11, [2, 0], "academic x"], [12, [0, 0], ""]]) {
+  papers.add(` ${FIVE[0].toUpperCase().replaceAll(" ", "\t  ")}${" ".repeat(700)}`);
+  for (const [code, details, paper] of [[28, [0, 0], CONFLICTING], [11, [2, 0], "academic x"], [12, [0, 0], ""], [71, [0, 0], FIVE[1].padEnd(1025)]]) {
     refused(code, null, details, () => papers.add(paper));
   }
   assert.throws(() => papers.add(7), TypeError);

@@ -110,16 +110,15 @@ class Papers(unittest.TestCase):
     def test_a_refused_paper_is_not_kept(self):
         papers = shamir.Papers()
         papers.add(FIVE[0])
-        for paper, code in [(FORGED[0], 28), ("academic x", 11), ("", 12), (WRONG, 13)]:
+        for paper, code in [(FORGED[0], 28), ("academic x", 11), ("", 12), (WRONG, 13), (FIVE[1].ljust(1025), 71)]:
             refused = refusal_of(papers.add, paper)
             self.assertEqual((refused.code, refused.line), (code, None))
         self.assertRaises(TypeError, papers.add, 7)
         self.assertEqual(papers.lines(ID), [FIVE[0].encode()])
 
     def test_the_spelling(self):
-        """A mnemonic can have more than 1,024 bytes, but calls that take lines take no such line."""
         papers = shamir.Papers()
-        papers.add(f" {FIVE[0].upper()}".replace(" ", "\t  ") + 2000 * " ")
+        papers.add(f" {FIVE[0].upper()}".replace(" ", "\t  ") + 700 * " ")
         papers.add(FIVE[1])
         self.assertEqual(papers.lines(ID), [line.encode() for line in FIVE[:2]])
 

@@ -80,18 +80,20 @@ fn papers_are_enough_for_the_backup_of_the_last_one() {
 fn a_refused_paper_is_not_kept() {
     let mut papers = Papers::new();
     papers.add(FIVE[0]).unwrap();
-    for (paper, code) in [(CONFLICTING, 28), ("academic x", 11), ("", 12), (&FIVE[1].replace("skin", "academic"), 13)] {
+    let long = FIVE[1].to_owned() + &" ".repeat(900);
+    for (paper, code) in
+        [(CONFLICTING, 28), ("academic x", 11), ("", 12), (&long, 71), (&FIVE[1].replace("skin", "academic"), 13)]
+    {
         let error = papers.add(paper).unwrap_err();
         assert_eq!((error.code(), error.line()), (code, None));
     }
     assert!(papers.lines(1).iter().eq([FIVE[0]]));
 }
 
-/// A line can have more than 1,024 bytes, but calls that take lines take no such line.
 #[test]
 fn papers_are_kept_in_the_spelling_of_the_library() {
     let mut papers = Papers::new();
-    papers.add(format!(" {}{}", FIVE[0].to_uppercase().replace(' ', "\t  "), " ".repeat(2000))).unwrap();
+    papers.add(format!(" {}{}", FIVE[0].to_uppercase().replace(' ', "\t  "), " ".repeat(700))).unwrap();
     papers.add(FIVE[1]).unwrap();
     assert!(papers.lines(1).iter().eq([FIVE[0], FIVE[1]]));
 }
