@@ -10,7 +10,8 @@ import { shownText, wordsIn, zero } from "./bytes.js";
 const BEGIN_WORDS = 2;
 
 /**
- * Returns what `read` reads of a paper. If its checksum is wrong, the refusal is the one by which the engine says where to look.
+ * Returns what `read` reads of a paper. If its checksum is wrong, the refusal is the one by which the engine says where to look. If the
+ * line is too long, it is what is wrong with the words, as nobody counts bytes.
  *
  * @template T
  * @param {Engine} engine
@@ -22,6 +23,7 @@ export function located(engine, line, read) {
     return read();
   } catch (error) {
     if (error instanceof Refusal && error.code === Code.BAD_CHECKSUM) zero(...engine.repairBytes(line));
+    if (error instanceof Refusal && error.code === Code.LINE_TOO_LONG) zero(engine.parse(line).value);
     throw error;
   }
 }

@@ -13,7 +13,7 @@ pub(crate) const REPAIR: usize = 20 * KIB;
 
 pub(crate) const CREATE: usize = 96 * KIB;
 
-pub(crate) const CREATE_FROM_ENCRYPTED: usize = 96 * KIB;
+pub(crate) const CREATE_FROM_ENCRYPTED: usize = 144 * KIB;
 
 pub(crate) const STATUS: usize = 224 * KIB;
 

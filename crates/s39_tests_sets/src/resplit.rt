@@ -365,6 +365,7 @@ fn splits_encrypted(rt: &impl Abort) -> Result<(), Fail> {
     let plan = Plan::parse("1of1")?;
     let mut created = Created::new();
     create_from_encrypted(&plan, old, &encrypted, b"\x5a\x17", &mut created)?;
+    assert_eq!(rt; created.shares().len(), 1);
     assert!(rt;
         print(&created.shares()[0]).starts_with(b"race retailer academic academic aircraft ")
     );
