@@ -31,16 +31,16 @@ static int tell(const char *before, shamir_answer answer, FILE *refusals) {
 }
 
 static int make(const char *plan) {
-    const size_t bytes = strlen(plan), needed = (size_t)shamir_random_needed(plan, bytes, 16).first;
+    const size_t bytes = strlen(plan), size = 16, needed = (size_t)shamir_random_needed(plan, bytes, size).first;
     const uint32_t exponent = 1, extendable = 1;
     shamir_answer answer;
 
-    if (getrandom(own.secret, 16, 0) != 16 || getrandom(own.random, needed, 0) != (ssize_t)needed)
+    if (getrandom(own.secret, size, 0) != (ssize_t)size || getrandom(own.random, needed, 0) != (ssize_t)needed)
         return fail("no random bytes");
-    answer = shamir_create(plan, bytes, own.secret, 16, own.key, strlen(own.key), exponent, extendable, own.random,
+    answer = shamir_create(plan, bytes, own.secret, size, own.key, strlen(own.key), exponent, extendable, own.random,
                            needed, own.text, sizeof own.text);
     return tell("", answer, stderr) ||
-           tell("# fingerprint ", shamir_fingerprint(own.secret, 16, own.text, sizeof own.text), stderr) ||
+           tell("# fingerprint ", shamir_fingerprint(own.secret, size, own.text, sizeof own.text), stderr) ||
            puts("") < 0;
 }
 

@@ -1,6 +1,6 @@
 """Four clients of the library. The first line of standard input is the passphrase, except for `repair`. Papers are the lines after it, or
 those of a file. FINGERPRINT is what `make` told. Ctrl-C stops a drill. To stay short, it shows what is typed, and clears nothing. A wallet
-hides the passphrase, and uses `recover_into` and bytearrays."""
+hides the passphrase, and uses `recover_into` and bytearrays. `python3 wallet.py make 2of3` runs the first, if `shamir` is in PYTHONPATH."""
 import os
 import signal
 import sys
@@ -47,5 +47,5 @@ if not client or not line:
     sys.exit("give make PLAN, recover FINGERPRINT, drill FINGERPRINT FILE or repair, and a line of input")
 try:
     client(line.rstrip("\n"), *sys.argv[2:])
-except shamir.Refusal as refused:
+except (OSError, shamir.Refusal) as refused:
     sys.exit(str(refused))
