@@ -916,8 +916,8 @@ SHAMIR_INLINE SHAMIR_STRUCT(1) shamir_answer shamir_papers_recover(
  * Every exponent is allowed.
  *
  * shamir_drill_next goes on to the next quorum, and returns 1. If no quorum is left, or if the library refuses, it returns 0, and the
- * field answer says which. The refusals are those of shamir_drill. A program can stop after each quorum, whose names are the cursor
- * with which shamir_drill goes on.
+ * field answer says which. The refusals are those of shamir_drill. A program can stop after each quorum. A later drill goes on after
+ * it if the field names gets its names before the first shamir_drill_next. It counts from 1, unless the field number gets another number.
  *
  * These functions stand in the header alone.
  *
@@ -972,7 +972,7 @@ SHAMIR_INLINE SHAMIR_STRUCT(1) int shamir_drill_list(shamir_drilling *drilling)
         drilling->answer = listed;
         return 0;
     }
-    if (drilling->number == 0) {
+    if (drilling->quorums == 0) {
         drilling->answer = shamir_quorums(drilling->lines, drilling->lines_bytes);
         drilling->quorums = drilling->answer.first;
     }

@@ -203,6 +203,17 @@ inline Names names(Text text)
     return found;
 }
 
+} // namespace detail
+
+/* Reads names in the form of to_text, such as the cursor of an earlier drill. Returns nothing if the text has another form. */
+inline std::optional<Names> names_in(Text text)
+{
+    const Names found = detail::names(text);
+    return to_text(found) == text ? std::optional(found) : std::nullopt;
+}
+
+namespace detail {
+
 /* Makes a call with room for its output. Returns what it writes, in memory of this length. */
 template <class Unit, class Call> Answer<Cleared<Unit>> written(std::size_t room, const Call &call)
 {

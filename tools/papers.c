@@ -1,10 +1,11 @@
 /*
  * Takes mnemonics from standard input as shamir_papers keeps them, and prints what is known after each. Then it recovers the secret of
- * the backup that came last, and drills it. tools/library compares what it prints.
+ * the backup that came last, and drills it. A later drill begins after the first quorum. tools/library compares what it prints.
  *
- *     papers BYTES ROOM FINGERPRINT
+ *     papers BYTES ROOM FINGERPRINT NAMES
  *
- * BYTES is the length of the buffer for mnemonics, and ROOM that for a part of the drill. The passphrase is TREZOR.
+ * BYTES is the length of the buffer for mnemonics, and ROOM that for a part of the drill. NAMES are those of the first quorum. The
+ * passphrase is TREZOR.
  */
 #include <stdio.h>
 #include <stdlib.h>
@@ -21,20 +22,29 @@ static void take(shamir_papers *papers, const char *line)
     printf("%.*s", (int)papers->backup_bytes, papers->backup_bytes ? papers->backup : "");
 }
 
-static void drill(const shamir_papers *papers, const char *noted, size_t room_bytes)
+static void list(shamir_drilling *drilling)
+{
+    while (shamir_drill_next(drilling)) {
+        printf("%lu of %lu: ", (unsigned long)drilling->number, (unsigned long)drilling->quorums);
+        printf("%s %u\n", drilling->names, drilling->as_expected);
+    }
+    printf("code %u written %lu\n", (unsigned)drilling->answer.code, (unsigned long)drilling->answer.written);
+    /* A drill that has ended stays so. */
+    if (shamir_drill_next(drilling)) {
+        puts("another quorum");
+    }
+}
+
+static void drill(const shamir_papers *papers, const char *noted, const char *first, size_t room_bytes)
 {
     char *room = malloc(room_bytes);
     shamir_drilling drilling = shamir_drill_start(papers->backup, papers->backup_bytes, "TREZOR", noted, room, room_bytes);
+    shamir_drilling later = drilling;
 
-    while (shamir_drill_next(&drilling)) {
-        printf("%lu of %lu: ", (unsigned long)drilling.number, (unsigned long)drilling.quorums);
-        printf("%s %u\n", drilling.names, drilling.as_expected);
-    }
-    printf("code %u written %lu\n", (unsigned)drilling.answer.code, (unsigned long)drilling.answer.written);
-    /* A drill that has ended stays so. */
-    if (shamir_drill_next(&drilling)) {
-        puts("another quorum");
-    }
+    list(&drilling);
+    strcpy(later.names, first);
+    later.number = 1;
+    list(&later);
     free(room);
 }
 
@@ -45,7 +55,7 @@ int main(int count, char **words)
     shamir_papers papers;
     shamir_answer answer;
 
-    if (count != 4) {
+    if (count != 5) {
         return 2;
     }
     memset(&papers, 0, sizeof papers);
@@ -58,7 +68,7 @@ int main(int count, char **words)
     printf("code %u bytes %lu\n", (unsigned)answer.code, (unsigned long)answer.written);
     answer = shamir_papers_recover(&papers, "TREZOR", words[3], secret, sizeof secret);
     printf("code %u bytes %lu\n", (unsigned)answer.code, (unsigned long)answer.written);
-    drill(&papers, words[3], (size_t)atoi(words[2]));
+    drill(&papers, words[3], words[4], (size_t)atoi(words[2]));
     free(papers.lines);
     return 0;
 }
