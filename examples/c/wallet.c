@@ -73,7 +73,7 @@ static int drill(const char *noted, const char *name) {
                drilling.names, drilling.as_expected ? "" : "NOT ");
         fflush(stdout);
     }
-    return stopped && drilling.number ? printf("stopped after %s\n", drilling.names) < 0 : tell("", drilling.answer, stderr);
+    return stopped ? printf("stopped after %s\n", drilling.names) < 0 : tell("", drilling.answer, stderr);
 }
 
 int main(int count, char **words) {
