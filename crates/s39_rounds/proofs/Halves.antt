@@ -4,7 +4,7 @@ use Rattle.std.proofs.Common.{Bool, true, false, if◌then◌else◌}
 use Rattle.std.proofs.lemmas.List.{take_at, drop_at, length-append, length-take-le, length-drop, take-append-drop}
 use Rattle.std.proofs.lemmas.List.Elements.{All-append, All-take, All-drop}
 use Rattle.s39_kdf.specs.Bytes.{AreBytes, xor_of}
-use Rattle.s39_kdf.specs.Cipher.{round_function, IsEncryption}
+use Rattle.s39_kdf.specs.Cipher.{round_function}
 use Rattle.s39_kdf.specs.declared.params.Params.{Params}
 use Rattle.s39_kdf.proofs.Xor.{length-xor_of}
 use Rattle.s39_kdf.proofs.Lengths.{length-round_function}
