@@ -173,7 +173,7 @@ module _ (once : (set : List ShareFields) (names others : Names) → IsLeastQuor
 -- ---- calls
 
 -- the code of a refusal isn't 0
-not_done : (n : ℕ) (fault : Fault) → done n ≡ refused fault → ⊥
+pub not_done : (n : ℕ) (fault : Fault) → done n ≡ refused fault → ⊥
 not_done n fault same =
     let code : 0 ≡ (cause_of fault.refusal).code = ap (λ (a : ShamirAnswer). a.code) same in absurd (omega (arith, above fault.refusal, code))
 

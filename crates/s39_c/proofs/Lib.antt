@@ -9,3 +9,4 @@ mod Rooms
 mod WordLines
 mod OneRepair
 mod Compositions
+mod FourRounds

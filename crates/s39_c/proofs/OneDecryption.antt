@@ -57,7 +57,7 @@ parameters_once parameters (Err bad) (Err other) none also = refl
 flag_of : (n : ℕ) → n ≤ 1 → (flag : Bool) × (flag_bit flag ≡ n)
 flag_of n low = elim (cases_lt 0 n) [ inl one ↦ (true, omega (arith, one, low)) | inr none ↦ (false, omega (arith, none)) ]
 
-parameters_some : (parameters : ShamirParameters) → AtLeastOne (AreParameters parameters)
+pub parameters_some : (parameters : ShamirParameters) → AtLeastOne (AreParameters parameters)
 parameters_some parameters =
     elim (cases_lt parameters.id (2 ^ id_bits)) [
       | inr high ↦ (Err tt, λ is. let low = is.0 in omega (arith, high, low))

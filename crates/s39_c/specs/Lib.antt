@@ -5,6 +5,7 @@ pub mod Exponents
 pub mod Fingerprinting
 pub mod Recovering
 pub mod Encrypted
+pub mod Rounds
 pub mod Drilling
 pub mod Reissuing
 pub mod Resplitting

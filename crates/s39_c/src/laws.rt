@@ -18,6 +18,7 @@ ghost use Rattle.s39_reading.specs.Recover.{IsRecoverOutput};
 ghost use Rattle.s39_creating.specs.Reissue.{IsReissueOutput};
 ghost use Rattle.s39_creating.specs.Resplit.{IsOutputFromEncrypted, IsResplitOutput};
 ghost use Rattle.s39_reading.specs.Status.{IsStatusOutput};
+ghost use Rattle.s39_rounds.specs.Rounds.{IsRoundDecryption};
 ghost use Rattle.s39_c.specs.declared.answer.ShamirAnswer.{ShamirAnswer as Answer};
 ghost use Rattle.s39_c.specs.declared.encrypted.ShamirParameters.{ShamirParameters as Parameters};
 ghost use Rattle.s39_c.specs.declared.judging.ShamirJudgement.{ShamirJudgement as Judgement};
@@ -35,6 +36,7 @@ ghost use Rattle.s39_c.specs.Recovering.{GivesExpectedSecret, GivesSecret};
 ghost use Rattle.s39_c.specs.Reissuing.{GivesReissued};
 ghost use Rattle.s39_c.specs.Repairing.{GivesRepaired};
 ghost use Rattle.s39_c.specs.Resplitting.{GivesFromEncrypted, GivesSplit};
+ghost use Rattle.s39_c.specs.Rounds.{GivesDecryptedRound};
 ghost use Rattle.s39_c.specs.Status.{GivesStatus};
 ghost use Rattle.s39_c.specs.Words.{GivesWords};
 
@@ -45,12 +47,13 @@ use s39_creating::laws::{
 };
 use s39_drilling::laws::one_listing_in_a_slice;
 use s39_input::laws::{accepted_inputs_are_share_sets, one_checked_set};
-use s39_kdf::laws::encryption_keeps_length_and_bytes;
+use s39_kdf::laws::{encryption_keeps_length_and_bytes, passphrases_are_printable_or_not};
 use s39_reading::laws::{
     one_decryption, one_encrypted_secret, one_exponent, one_recover_output,
     shares_have_the_exponent,
 };
 use s39_repair::laws::one_answer;
+use s39_rounds::laws::{one_round, undoing_keeps_length_and_bytes, undone_rounds_decrypt};
 use s39_set::laws::{one_first_quorum, one_lack, quorums_are_counted, written_forms};
 use s39_words::laws::one_printed_form;
 
@@ -134,6 +137,47 @@ pub fn one_decrypted()
         × GivesDecrypted parameters (λ params noted. IsDecryption noted passphrase (params, encrypted)) digits old new answer }
 {
     one_decryption();
+}
+
+/// Parameters, the number of a round, a text and a passphrase determine the buffer of the undone text and the answer of
+/// `shamir_decrypt_round`, and there are such ones.
+pub fn one_decrypted_round()
+    ensures once { (parameters : Parameters) (round : ℕ) (encrypted passphrase old new other : List ℕ)
+        (answer another : Answer)
+        → GivesDecryptedRound parameters round encrypted passphrase old new answer
+        → GivesDecryptedRound parameters round encrypted passphrase old other another
+        → (new ≡ other) × (answer ≡ another) }
+    ensures exists { (parameters : Parameters) (round : ℕ) (encrypted passphrase old : List ℕ)
+        → (new : List ℕ) × (answer : Answer)
+        × GivesDecryptedRound parameters round encrypted passphrase old new answer }
+{
+    one_round();
+}
+
+/// A decryption is four rounds: calls of `shamir_decrypt_round` with the rounds 3, 2, 1 and 0, each for the text that the one before
+/// it gave, give at last what `shamir_decrypt` gives if no fingerprint is expected. At a refusal, the first round gives the cause of
+/// the decryption.
+pub fn decryptions_are_four_rounds()
+    ensures secrets { (passphrase : List ℕ) (params : Params) (encrypted third second first secret : List ℕ)
+        → IsRoundDecryption 3 passphrase (params, encrypted) (Ok third)
+        → IsRoundDecryption 2 passphrase (params, third) (Ok second)
+        → IsRoundDecryption 1 passphrase (params, second) (Ok first)
+        → IsRoundDecryption 0 passphrase (params, first) (Ok secret)
+        → IsDecryption None passphrase (params, encrypted) (Ok secret) }
+    ensures refusals { (passphrase : List ℕ) (params : Params) (encrypted : List ℕ) (fault : Fault)
+        → IsRoundDecryption 3 passphrase (params, encrypted) (Err fault)
+        ↔ IsDecryption None passphrase (params, encrypted) (Err fault) }
+    ensures calls { (parameters : Parameters) (passphrase encrypted : List ℕ)
+        (l m n : ℕ) (old3 new3 old2 new2 old1 new1 old new : List ℕ) (answer : Answer)
+        → GivesDecryptedRound parameters 3 encrypted passphrase old3 new3 (done l)
+        → GivesDecryptedRound parameters 2 (take l new3) passphrase old2 new2 (done m)
+        → GivesDecryptedRound parameters 1 (take m new2) passphrase old1 new1 (done n)
+        → GivesDecryptedRound parameters 0 (take n new1) passphrase old new answer
+        → GivesDecrypted parameters (λ params noted. IsDecryption noted passphrase (params, encrypted)) [] old new answer }
+{
+    passphrases_are_printable_or_not();
+    undoing_keeps_length_and_bytes();
+    undone_rounds_decrypt();
 }
 
 /// Lines, passphrase, maximum exponent, cursor, limit, the number of the form and the text of a fingerprint determine the
