@@ -10,7 +10,8 @@ use Rattle.s39_input.proofs.Steps.{AtMostOne, AtLeastOne}
 use Rattle.s39_input.specs.Steps.{gives, refuses}
 use Rattle.s39_input.specs.declared.fault.Fault.{Fault}
 use Rattle.s39_reading.specs.Encrypted.{IsDecryption}
-use Rattle.s39_rounds.specs.Rounds.{rounds, IsUndone, IsRoundDecryption, UndoneRoundsDecrypt, UndoingKeepsLengthAndBytes}
+use Rattle.s39_kdf.specs.Rounds.{rounds, IsUndone, UndoneRoundsDecrypt, UndoingKeepsLengthAndBytes}
+use Rattle.s39_reading.specs.Encrypted.{IsRoundDecryption}
 use Rattle.s39_c.specs.declared.answer.ShamirAnswer.{ShamirAnswer}
 use Rattle.s39_c.specs.declared.encrypted.ShamirParameters.{ShamirParameters}
 use Rattle.s39_c.specs.Answers.{done, out_of_range, refused}

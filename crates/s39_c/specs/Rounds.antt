@@ -1,6 +1,7 @@
 -- What `shamir_decrypt_round` gives.
 use Rattle.std.specs.Prelude.{ℕ, ◌<◌, List, Result, Ok, Err}
-use Rattle.s39_rounds.specs.Rounds.{rounds, IsRoundDecryption}
+use Rattle.s39_kdf.specs.Rounds.{rounds}
+use Rattle.s39_reading.specs.Encrypted.{IsRoundDecryption}
 use Rattle.s39_c.specs.declared.answer.ShamirAnswer.{ShamirAnswer}
 use Rattle.s39_c.specs.declared.encrypted.ShamirParameters.{ShamirParameters}
 use Rattle.s39_c.specs.Answers.{Step, out_of_range}

@@ -1,5 +1,5 @@
 //! The call that decrypts one round of an encrypted secret.
-ghost use Rattle.s39_rounds.specs.Rounds.{IsRoundDecryption};
+ghost use Rattle.s39_reading.specs.Encrypted.{IsRoundDecryption};
 ghost use Rattle.s39_c.specs.Answers.{Step, out_of_range};
 ghost use Rattle.s39_c.specs.Encrypted.{GivesDecryption};
 ghost use Rattle.s39_c.specs.Rounds.{GivesDecryptedRound, IsRound};
@@ -10,8 +10,8 @@ use crate::decrypting::params_of;
 use crate::encrypted::ShamirParameters;
 use crate::memory::give;
 use s39_clearing::clear_stack;
-use s39_kdf::Params;
-use s39_rounds::{Round, decrypt_round};
+use s39_kdf::{Params, Round};
+use s39_reading::decrypt_round;
 
 /// Decrypts one of the four rounds of an encrypted secret with a passphrase. So a caller can show how far a decryption is, and stop
 /// it. Calls with the rounds 3, 2, 1 and 0, in this order, give what `shamir_decrypt` gives if `expected` is empty, in a quarter of

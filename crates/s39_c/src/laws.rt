@@ -18,7 +18,7 @@ ghost use Rattle.s39_reading.specs.Recover.{IsRecoverOutput};
 ghost use Rattle.s39_creating.specs.Reissue.{IsReissueOutput};
 ghost use Rattle.s39_creating.specs.Resplit.{IsOutputFromEncrypted, IsResplitOutput};
 ghost use Rattle.s39_reading.specs.Status.{IsStatusOutput};
-ghost use Rattle.s39_rounds.specs.Rounds.{IsRoundDecryption};
+ghost use Rattle.s39_reading.specs.Encrypted.{IsRoundDecryption};
 ghost use Rattle.s39_c.specs.declared.answer.ShamirAnswer.{ShamirAnswer as Answer};
 ghost use Rattle.s39_c.specs.declared.encrypted.ShamirParameters.{ShamirParameters as Parameters};
 ghost use Rattle.s39_c.specs.declared.judging.ShamirJudgement.{ShamirJudgement as Judgement};
@@ -47,13 +47,15 @@ use s39_creating::laws::{
 };
 use s39_drilling::laws::one_listing_in_a_slice;
 use s39_input::laws::{accepted_inputs_are_share_sets, one_checked_set};
-use s39_kdf::laws::{encryption_keeps_length_and_bytes, passphrases_are_printable_or_not};
+use s39_kdf::laws::{
+    encryption_keeps_length_and_bytes, passphrases_are_printable_or_not,
+    undoing_keeps_length_and_bytes, undone_rounds_decrypt,
+};
 use s39_reading::laws::{
     one_decryption, one_encrypted_secret, one_exponent, one_recover_output,
-    shares_have_the_exponent,
+    one_round, shares_have_the_exponent,
 };
 use s39_repair::laws::one_answer;
-use s39_rounds::laws::{one_round, undoing_keeps_length_and_bytes, undone_rounds_decrypt};
 use s39_set::laws::{one_first_quorum, one_lack, quorums_are_counted, written_forms};
 use s39_words::laws::one_printed_form;
 

@@ -3,4 +3,5 @@ pub mod Lengths
 pub mod Parts
 pub mod ByteValues
 pub mod Rounds
+pub mod Halves
 pub mod Unprintable

@@ -5,6 +5,7 @@ pub mod Fingerprint
 pub mod Noted
 pub mod Pbkdf2
 pub mod Cipher
+pub mod Rounds
 pub mod Limits
 pub mod Passphrases
 pub mod Causes

@@ -3,10 +3,12 @@ ghost use Rattle.std.specs.Prelude.{◌≡◌, ℕ, ◌+◌, ◌%◌, ◌^◌, �
 ghost use Rattle.arrayvec.specs.ArrayVec.{array_vec_len};
 ghost use Rattle.s39_kdf.specs.Bytes.{xor_of};
 ghost use Rattle.s39_kdf.specs.Cipher.{round_function, IsEncryption};
+ghost use Rattle.s39_kdf.specs.Rounds.{IsUndone};
 
 use crate::key_derivation::pbkdf2;
 use crate::limits::{Bytes, MAX_SECRET_BYTES};
 use crate::params::Params;
+use crate::round::Round;
 use arrayvec::ArrayVec;
 
 /// The most bytes of half a secret.
@@ -78,6 +80,38 @@ pub fn decrypt(encrypted: &Bytes, passphrase: &[u8], params: Params) -> Bytes
     let h1 = round(1, &h3, &h2, passphrase, params);
     let h0 = round(0, &h2, &h1, passphrase, params);
     join(&h0, &h1)
+}
+
+/// Undoes one round of the encryption under a passphrase (SLIP-0039, "Encryption of the master secret"). The number of bytes must
+/// be even; the result has the same length.
+///
+/// The rounds 3, 2, 1 and 0 are undone in this order, each of what the one before it gave. The first text is the encrypted secret,
+/// and the last one the secret. Each call takes a quarter of the iterations of [`decrypt`]: `params.round_iterations()`, and
+/// twice as many for more than 64 bytes.
+///
+/// ```rust
+/// let params = Params {
+///     id: 7945,
+///     extendable: false,
+///     exponent: 0,
+/// };
+/// let encrypted = check_secret(b"\x11\xbc\x60\x9d\x21\x74\x7c\x49\xba\x78\xc0\x70\x12\x93\xe4\x17")?;
+/// let third = undo_round(Round::new(3).unwrap(), &encrypted, b"TREZOR", params);
+/// assert_eq!(rt; &third[..8], b"\xba\x78\xc0\x70\x12\x93\xe4\x17".as_slice());
+/// assert_eq!(rt; &third[8..], b"\xdb\xda\xa6\xdf\x35\x14\xc7\xa6".as_slice());
+/// ```
+pub fn undo_round(last: Round, encrypted: &Bytes, passphrase: &[u8], params: Params) -> Bytes
+    requires { array_vec_len encrypted.now % 2 ≡ 0 }
+    ensures value { IsUndone passphrase.now params last.number encrypted.now.items result.items }
+    ensures len { array_vec_len result ≡ array_vec_len encrypted.now }
+{
+    let (front, back) = halves(encrypted);
+    let before = round(last.number, front, back, passphrase, params);
+    if last.number == 0 {
+        join(&before, back)
+    } else {
+        join(back, &before)
+    }
 }
 
 /// The two halves of an even number of bytes.

@@ -1,6 +1,7 @@
 //! Laws of the cipher, of the limits and of fingerprints. Each is proved as the contract of a function that does nothing.
 ghost use Rattle.std.specs.Prelude.{◌≡◌, ◌+◌, ◌^◌};
 ghost use Rattle.s39_kdf.specs.Cipher.{EncryptsOneSecret, SecretsHaveOneEncryption, TextsHaveOneSecret, EncryptionKeepsLengthAndBytes};
+ghost use Rattle.s39_kdf.specs.Rounds.{rounds, RoundsHaveOneUndone, UndoingKeepsLengthAndBytes, UndoneRoundsDecrypt};
 ghost use Rattle.s39_kdf.specs.Limits.{shortest_secret, longest_secret, exponent_bits};
 ghost use Rattle.s39_kdf.specs.Passphrases.{PassphrasesHaveOneFirstUnprintable, PrintablePassphrasesHaveNone, PassphrasesArePrintableOrNot};
 ghost use Rattle.s39_kdf.specs.Hmac.{block_length, mac_length};
@@ -13,12 +14,14 @@ use crate::key_derivation::MAX_DERIVED_BYTES;
 use crate::keyed_hash::{BLOCK_BYTES, MAC_BYTES};
 use crate::limits::{MAX_SECRET_BYTES, MIN_SECRET_BYTES};
 use crate::params::MAX_EXPONENT;
+use crate::round::ROUNDS;
 
 /// The constants of the code equal the numbers of the definitions.
 pub fn numbers()
     ensures shortest { MIN_SECRET_BYTES ≡ shortest_secret }
     ensures longest { MAX_SECRET_BYTES ≡ longest_secret }
     ensures exponent { MAX_EXPONENT + 1 ≡ 2 ^ exponent_bits }
+    ensures rounds { ROUNDS ≡ rounds }
     ensures block { BLOCK_BYTES ≡ block_length }
     ensures mac { MAC_BYTES ≡ mac_length }
     ensures derived { MAX_DERIVED_BYTES ≡ longest_derived_key }
@@ -35,6 +38,22 @@ pub fn encrypts_one_secret()
 pub fn one_encryption()
     ensures of_secrets { SecretsHaveOneEncryption }
     ensures of_texts { TextsHaveOneSecret }
+{}
+
+/// A text of even length gives exactly one text when a round is undone.
+pub fn one_undone()
+    ensures { RoundsHaveOneUndone }
+{}
+
+/// The text that is undone is as long as the text, and if the text consists of bytes, so does it.
+pub fn undoing_keeps_length_and_bytes()
+    ensures { UndoingKeepsLengthAndBytes }
+{}
+
+/// If rounds 3, 2, 1 and 0 are undone, each of what the one before it gave, the last text is the secret whose encryption the first
+/// one is.
+pub fn undone_rounds_decrypt()
+    ensures { UndoneRoundsDecrypt }
 {}
 
 /// A secret and its encryption have the same length, and if one of them consists of bytes, so does the other.

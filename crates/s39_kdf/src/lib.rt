@@ -23,9 +23,10 @@ pub mod laws;
 mod limits;
 mod noted;
 mod params;
+mod round;
 mod secret_form;
 
-pub use cipher::{decrypt, encrypt};
+pub use cipher::{decrypt, encrypt, undo_round};
 pub use fingerprinting::{FINGERPRINT_BYTES, fingerprint};
 pub use key_derivation::{MAX_DERIVED_BYTES, pbkdf2};
 pub use keyed_hash::{MAC_BYTES, hmac};
@@ -35,4 +36,5 @@ pub use limits::{
 };
 pub use noted::{BadFingerprint, NotedFingerprint, parse_fingerprint};
 pub use params::{MAX_EXPONENT, Params};
+pub use round::{ROUNDS, Round};
 pub use secret_form::SecretForm;

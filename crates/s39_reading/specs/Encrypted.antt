@@ -4,6 +4,7 @@ use Rattle.std.specs.Prelude.{◌≡◌, ℕ, List, Option, Result, Ok, Err}
 use Rattle.s39_kdf.specs.declared.noted.NotedFingerprint.{NotedFingerprint}
 use Rattle.s39_kdf.specs.declared.params.Params.{Params}
 use Rattle.s39_kdf.specs.Cipher.{IsEncryption}
+use Rattle.s39_kdf.specs.Rounds.{IsUndone}
 use Rattle.s39_words.specs.declared.ShareFields.{ShareFields}
 use Rattle.s39_backup.specs.Combination.{combination_of}
 use Rattle.s39_backup.specs.Outcome.{AreParams}
@@ -37,3 +38,11 @@ abbrev pub IsDecryption : Option NotedFingerprint → List ℕ → Params × Lis
 IsDecryption expected passphrase encrypted =
     Then (IsJudged passphrase) (λ bad. Err (fault_of (Passphrase bad))) (λ _.
     Then (IsMeasured encrypted.1) (λ bad. Err (fault_of (SecretLength bad))) (λ _. IsDecrypted expected passphrase encrypted))
+
+-- The passphrase is judged first, then the number of the text's bytes, and at last the round is undone. The text comes with the
+-- parameters of its backup.
+abbrev pub IsRoundDecryption : ℕ → List ℕ → Params × List ℕ → Result (List ℕ) Fault → Type 0
+IsRoundDecryption round passphrase text =
+    Then (IsJudged passphrase) (λ bad. Err (fault_of (Passphrase bad))) (λ _.
+    Then (IsMeasured text.1) (λ bad. Err (fault_of (SecretLength bad))) (λ _ result.
+    (undone : List ℕ) × IsUndone passphrase text.0 round text.1 undone × (result ≡ Ok undone)))

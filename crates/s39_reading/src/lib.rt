@@ -12,9 +12,11 @@ pub mod laws;
 mod length_laws;
 mod recover;
 mod round_trips;
+mod rounds;
 mod status;
 
 pub use encrypted::{EncryptedSecret, decrypt_secret, encrypted_in};
 pub use exponent::exponent_of;
 pub use recover::{recover_secret, recover_set, recovered_line, run_recover};
+pub use rounds::decrypt_round;
 pub use status::{WrittenStatus, run_status, set_status, status_lines};

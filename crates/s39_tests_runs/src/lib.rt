@@ -13,3 +13,5 @@ mod judging;
 mod reading;
 #[cfg(test)]
 mod resplit;
+#[cfg(test)]
+mod rounds;

@@ -1,5 +1,5 @@
 use Rattle.std.proofs.Common.{refl, inl, inr, subst}
-use Rattle.s39_rounds.specs.Rounds.{IsRoundDecryption}
+use Rattle.s39_reading.specs.Encrypted.{IsRoundDecryption}
 use Rattle.s39_c.specs.Encrypted.{GivesDecryption}
 use Rattle.s39_c.proofs.decrypting_rounds.numbered_round.Goals as goal
 

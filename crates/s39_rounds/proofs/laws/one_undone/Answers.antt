@@ -1,5 +1,0 @@
-use Rattle.s39_rounds.proofs.Halves.{rounds_have_one_undone}
-use Rattle.s39_rounds.proofs.laws.one_undone.Goals as goal
-
-pub returns : goal.returns
-returns c = rounds_have_one_undone

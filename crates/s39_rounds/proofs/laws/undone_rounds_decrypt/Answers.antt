@@ -1,5 +1,0 @@
-use Rattle.s39_rounds.proofs.Halves.{undone_rounds_decrypt}
-use Rattle.s39_rounds.proofs.laws.undone_rounds_decrypt.Goals as goal
-
-pub returns : goal.returns
-returns c = undone_rounds_decrypt
