@@ -19,7 +19,7 @@ use Rattle.s39_input.specs.Accepted.{IsCheckedSet, CheckedSetLaws}
 use Rattle.s39_input.specs.Steps.{gives, refuses, nothing_for}
 use Rattle.s39_input.proofs.Steps.{AtMostOne, then_once}
 use Rattle.s39_drilling.specs.declared.drill.Done.{Done}
-use Rattle.s39_drilling.specs.declared.drill.Undrilled.TheVariants.{Lack as UndrilledLack}
+use Rattle.s39_drilling.specs.declared.drill.NoDrill.TheVariants.{Lack as NoDrillLack}
 use Rattle.s39_drilling.specs.Drill.{IsDrillOutput}
 use Rattle.s39_reading.specs.Exponent.{exponent_of, IsExponent}
 use Rattle.s39_reading.specs.Recover.{IsRecoverOutput, WritesSecret}
@@ -121,7 +121,7 @@ module _ (most : ℕ) (passphrase lines : List ℕ) where
         → IsDrillOutput form passphrase after limit (whole lines) [] (Err fault)
     drill_refusal form after limit fault (inl checked) = refuses fault checked refl
     drill_refusal form after limit fault (inr (set, lack, checked, lacks, is)) =
-        gives set checked (refuses (UndrilledLack lack) lacks (ap nothing_listed is))
+        gives set checked (refuses (NoDrillLack lack) lacks (ap nothing_listed is))
 
     pub every_listing : (cursor : List ℕ) (limit number : ℕ) (digits old new : List ℕ) (answer : ShamirAnswer)
         → GivesDrill (λ form names. GivesUpTo most passphrase lines

@@ -18,8 +18,8 @@ use Rattle.s39_backup.specs.Created.{random_needed, Asked, asked_for}
 use Rattle.s39_input.proofs.Steps.{AtMostOne}
 use Rattle.s39_input.specs.declared.fault.Fault.{Fault}
 use Rattle.s39_drilling.specs.declared.listing.Listing.{Listing}
-use Rattle.s39_input.specs.declared.slices.Unwritten.{Unwritten}
-use Rattle.s39_input.specs.declared.slices.Unwritten.TheVariants.{Refused, TooShort as SliceTooShort}
+use Rattle.s39_input.specs.declared.slices.NoOutput.{NoOutput}
+use Rattle.s39_input.specs.declared.slices.NoOutput.TheVariants.{Refused, TooShort as SliceTooShort}
 use Rattle.s39_kdf.specs.declared.secret_form.SecretForm.{SecretForm}
 use Rattle.s39_input.specs.Input.{Input, lines_in, whole}
 use Rattle.s39_input.specs.Create.{IsCreateOutput}
@@ -27,7 +27,7 @@ use Rattle.s39_creating.specs.Reissue.{IsReissueOutput}
 use Rattle.s39_drilling.specs.Drill.{IsDrillOutput}
 use Rattle.s39_drilling.specs.Slices.{Lists}
 use Rattle.s39_c.specs.declared.answer.ShamirAnswer.{ShamirAnswer}
-use Rattle.s39_c.specs.Answers.{done, created, number, out_of_range, cursor_refused, names_refused, fingerprint_refused, plan_refused, unwritten, listed}
+use Rattle.s39_c.specs.Answers.{done, created, number, out_of_range, cursor_refused, names_refused, fingerprint_refused, plan_refused, without_output, listed}
 use Rattle.s39_c.specs.Creating.{Wanted, AreOptions, GivesBackup, GivesNumber}
 use Rattle.s39_c.specs.Drilling.{IsCursor, IsInRange, GivesListing, GivesDrill}
 use Rattle.s39_c.specs.Fingerprinting.{GivesFingerprint}
@@ -164,19 +164,19 @@ no_empty_form (name ∷ next ∷ names) is =
     ))
 
 -- the answer for what is put into a slice, or isn't
-abbrev answer_of : Result Listing Unwritten → ShamirAnswer
+abbrev answer_of : Result Listing NoOutput → ShamirAnswer
 answer_of (Ok listing) = listed listing
-answer_of (Err cause) = unwritten cause
+answer_of (Err cause) = without_output cause
 
 module _ (one_listing_in_a_slice : (form : SecretForm) (passphrase : List ℕ) (after : Option Names) (limit : ℕ) (input : Input) (old new other : List ℕ)
-    (answer another : Result Listing Unwritten)
+    (answer another : Result Listing NoOutput)
     → Lists (λ n. IsDrillOutput form passphrase after n input) limit old new answer
     → Lists (λ n. IsDrillOutput form passphrase after n input) limit old other another → (new ≡ other) × (answer ≡ another))
     (passphrase lines : List ℕ) where
   -- what is put into a slice, and the answer for it
   puts : (form : SecretForm) (after : Option Names) (limit : ℕ) (old new : List ℕ) (answer : ShamirAnswer)
       → GivesListing (λ n. IsDrillOutput form passphrase after n (whole lines)) limit old new answer
-      → (result : Result Listing Unwritten) × Lists (λ n. IsDrillOutput form passphrase after n (whole lines)) limit old new result
+      → (result : Result Listing NoOutput) × Lists (λ n. IsDrillOutput form passphrase after n (whole lines)) limit old new result
       × (answer ≡ answer_of result)
   puts form after limit old new answer (inl (listing, fits, says)) = (Ok listing, fits, says)
   puts form after limit old new answer (inr (inl (short, is_short, is, says))) = (Err (SliceTooShort short), (is_short, is), says)

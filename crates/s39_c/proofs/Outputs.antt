@@ -4,8 +4,8 @@ use Rattle.std.specs.Prelude.{Option, Result, Ok, Err}
 use Rattle.s39_set.specs.Names.{Names}
 use Rattle.s39_drilling.specs.declared.drill.Done.{Done}
 use Rattle.s39_input.specs.declared.fault.Fault.{Fault}
-use Rattle.s39_input.specs.declared.slices.Unwritten.{Unwritten}
-use Rattle.s39_input.specs.declared.slices.Unwritten.TheVariants.{Refused, TooShort}
+use Rattle.s39_input.specs.declared.slices.NoOutput.{NoOutput}
+use Rattle.s39_input.specs.declared.slices.NoOutput.TheVariants.{Refused, TooShort}
 use Rattle.s39_input.specs.declared.slices.WrittenLines.{WrittenLines}
 use Rattle.s39_reading.specs.declared.status.WrittenStatus.{WrittenStatus}
 use Rattle.s39_set.specs.declared.status.Status.{Status}
@@ -21,7 +21,7 @@ use Rattle.s39_drilling.specs.Drill.{IsDrillOutput, DrillsCreated}
 use Rattle.s39_reading.specs.Recover.{secret_line, IsRecoverOutput, RecoversCreated}
 use Rattle.s39_c.specs.Exponents.{GivesUpTo}
 use Rattle.s39_c.specs.declared.answer.ShamirAnswer.{ShamirAnswer}
-use Rattle.s39_c.specs.Answers.{GivesOutput, done, counted, too_short, unwritten}
+use Rattle.s39_c.specs.Answers.{GivesOutput, done, counted, too_short, without_output}
 use Rattle.s39_c.specs.Drilling.{GivesListing, GivesDrill}
 use Rattle.s39_c.specs.Recovering.{GivesSecret, GivesExpectedSecret}
 use Rattle.s39_c.specs.Resplitting.{GivesSplit}
@@ -29,12 +29,12 @@ use Rattle.s39_c.specs.Status.{GivesStatus}
 use Rattle.s39_backup.specs.declared.plan.Members.{Members}
 
 -- the answer for what is put into a slice, or isn't
-abbrev pub answer_of : Result WrittenLines Unwritten → ShamirAnswer
+abbrev pub answer_of : Result WrittenLines NoOutput → ShamirAnswer
 answer_of (Ok put) = done put.written
-answer_of (Err cause) = unwritten cause
+answer_of (Err cause) = without_output cause
 
 -- what a command writes
-pub gives_puts : (IsOutput : List ℕ → Result (Unit {0}) Fault → Type 0) (old new : List ℕ) (result : Result WrittenLines Unwritten) (answer : ShamirAnswer)
+pub gives_puts : (IsOutput : List ℕ → Result (Unit {0}) Fault → Type 0) (old new : List ℕ) (result : Result WrittenLines NoOutput) (answer : ShamirAnswer)
     → Puts IsOutput old new result → answer ≡ answer_of result → GivesOutput IsOutput old new answer
 gives_puts IsOutput old new (Ok put) answer (text, output, front, bytes, lines) is =
     inr (text, output, inl (front.fits, front.bytes, is ∙ ap done bytes))
@@ -43,12 +43,12 @@ gives_puts IsOutput old new (Err (TooShort short)) answer (text, output, needed,
 gives_puts IsOutput old new (Err (Refused fault)) answer (output, same) is = inl (fault, output, same, is)
 
 -- the answer for a status that is put into a slice, or isn't
-abbrev pub status_answer_of : Result WrittenStatus Unwritten → ShamirAnswer
+abbrev pub status_answer_of : Result WrittenStatus NoOutput → ShamirAnswer
 status_answer_of (Ok told) = counted told.written told.status
-status_answer_of (Err cause) = unwritten cause
+status_answer_of (Err cause) = without_output cause
 
 -- a status
-pub gives_status : (IsOutput : List ℕ → Result Status Fault → Type 0) (old new : List ℕ) (result : Result WrittenStatus Unwritten)
+pub gives_status : (IsOutput : List ℕ → Result Status Fault → Type 0) (old new : List ℕ) (result : Result WrittenStatus NoOutput)
     (answer : ShamirAnswer) → PutsStatus IsOutput old new result → answer ≡ status_answer_of result → GivesStatus IsOutput old new answer
 gives_status IsOutput old new (Ok told) answer (text, output, front, bytes) is =
     inr ((text, told.status), output, inl (front.fits, front.bytes, is ∙ ap (λ n. counted n told.status) bytes))
@@ -57,8 +57,8 @@ gives_status IsOutput old new (Err (TooShort short)) answer (text, status, outpu
 gives_status IsOutput old new (Err (Refused fault)) answer (output, same) is = inl (fault, output, same, is)
 
 -- why nothing is listed, as it is answered
-pub gives_refusal : (IsOutput : ℕ → List ℕ → Result Done Fault → Type 0) (limit : ℕ) (old new : List ℕ) (cause : Unwritten) (answer : ShamirAnswer)
-    → Lists IsOutput limit old new (Err cause) → answer ≡ unwritten cause → GivesListing IsOutput limit old new answer
+pub gives_refusal : (IsOutput : ℕ → List ℕ → Result Done Fault → Type 0) (limit : ℕ) (old new : List ℕ) (cause : NoOutput) (answer : ShamirAnswer)
+    → Lists IsOutput limit old new (Err cause) → answer ≡ without_output cause → GivesListing IsOutput limit old new answer
 gives_refusal IsOutput limit old new (Refused fault) answer (output, same) is = inr (inr (fault, output, same, is))
 gives_refusal IsOutput limit old new (TooShort short) answer (is_short, same) is = inr (inl (short, is_short, same, is))
 

@@ -13,8 +13,8 @@ use Rattle.s39_backup.specs.declared.plan_error.PlanError.{PlanError}
 use Rattle.s39_backup.specs.Plan.{plan_cause_of}
 use Rattle.s39_input.specs.declared.fault.Fault.{Fault}
 use Rattle.s39_drilling.specs.declared.listing.Listing.{Listing}
-use Rattle.s39_input.specs.declared.slices.Unwritten.{Unwritten}
-use Rattle.s39_input.specs.declared.slices.Unwritten.TheVariants.{Refused, TooShort}
+use Rattle.s39_input.specs.declared.slices.NoOutput.{NoOutput}
+use Rattle.s39_input.specs.declared.slices.NoOutput.TheVariants.{Refused, TooShort}
 use Rattle.s39_input.specs.Fault.{cause_of}
 use Rattle.s39_c.specs.declared.answer.ShamirAnswer.{ShamirAnswer}
 
@@ -92,9 +92,9 @@ abbrev pub refused : Fault → ShamirAnswer
 refused fault = refusal (cause_of fault.refusal) (line_of fault.line)
 
 -- nothing is put into a slice
-abbrev pub unwritten : Unwritten → ShamirAnswer
-unwritten (Refused fault) = refused fault
-unwritten (TooShort short) = too_short short.needed
+abbrev pub without_output : NoOutput → ShamirAnswer
+without_output (Refused fault) = refused fault
+without_output (TooShort short) = too_short short.needed
 
 -- These bytes are at the front of a slice, the rest of it is unchanged, and this is the answer. Or they don't fit, and all of it is
 -- unchanged.

@@ -4,7 +4,7 @@ ghost use Rattle.s39_c.specs.Answers.{done, number, counted, created, listed, to
 
 use s39_backup::PlanError;
 use s39_drilling::Listing;
-use s39_input::{Fault, Unwritten, WrittenLines};
+use s39_input::{Fault, NoOutput, WrittenLines};
 use s39_kdf::BadFingerprint;
 use s39_reading::WrittenStatus;
 use s39_refusal::Cause;
@@ -194,15 +194,15 @@ impl From<Fault> for ShamirAnswer {
     }
 }
 
-impl From<Unwritten> for ShamirAnswer {
-    ghost use Rattle.s39_c.specs.Answers.{unwritten};
+impl From<NoOutput> for ShamirAnswer {
+    ghost use Rattle.s39_c.specs.Answers.{without_output};
 
-    ghost from_gives = { λ cause answer. answer ≡ unwritten cause };
+    ghost from_gives = { λ cause answer. answer ≡ without_output cause };
 
-    fn from(cause: Unwritten) -> ShamirAnswer {
+    fn from(cause: NoOutput) -> ShamirAnswer {
         match cause {
-            Unwritten::Refused(fault) => ShamirAnswer::from(fault),
-            Unwritten::TooShort(short) => ShamirAnswer::too_short(short.needed),
+            NoOutput::Refused(fault) => ShamirAnswer::from(fault),
+            NoOutput::TooShort(short) => ShamirAnswer::too_short(short.needed),
         }
     }
 }

@@ -7,7 +7,7 @@ pub mod GoingOut
 pub mod Interrupted
 pub mod Literals
 pub mod Outcomes
-pub mod Parts
+pub mod ReadParts
 pub mod Repairs
 pub mod Said
 pub mod SaidByRuns
@@ -17,7 +17,7 @@ pub mod SeenOfWords
 pub mod HowFar
 pub mod SameValues
 pub mod SomeOutcomes
-pub mod Unreadiness
+pub mod WithoutWork
 pub mod Untouched
 pub mod Works
 pub mod OneEnding

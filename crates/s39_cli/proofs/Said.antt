@@ -20,8 +20,8 @@ use Rattle.s39_cli.specs.declared.runner.Ended.{Ended}
 use Rattle.s39_cli.specs.declared.runner.Ended.TheVariants.{With, NoMemory}
 use Rattle.s39_cli.specs.declared.runner.Source.{Source}
 use Rattle.s39_cli.specs.declared.runner.Source.TheVariants as read_at
-use Rattle.s39_cli.specs.declared.work.Unready.{Unready}
-use Rattle.s39_cli.specs.declared.work.Unready.TheVariants as unready
+use Rattle.s39_cli.specs.declared.work.NoWork.{NoWork}
+use Rattle.s39_cli.specs.declared.work.NoWork.TheVariants as no_work
 use Rattle.s39_cli.specs.declared.work.Work.{Work}
 use Rattle.s39_cli.specs.declared.work.Work.TheVariants as work
 use Rattle.s39_reading.specs.Recover.{WritesSecret}
@@ -30,7 +30,7 @@ use Rattle.s39_cli.specs.Ending.{Delivers, HasStatus}
 use Rattle.s39_cli.specs.Outcome.{HasBadPlan, IsReady, judged, status_of, status_of_refusal, where_done, without_mismatches}
 use Rattle.s39_cli.specs.Said.{HasFormlessPlan, IsSaidBy, IsSaidOfJob, IsSaidUnbegun, IsSilentAtNone}
 use Rattle.s39_cli.specs.Said.{IsWithin, OnStatus, Says, SaysBeside, SaysFault, SaysMessage, SaysOnceRead, longest_message}
-use Rattle.s39_cli.specs.Unready.{IsUnready}
+use Rattle.s39_cli.specs.NoWork.{IsNoWork}
 use Rattle.s39_cli.specs.Said.{bare_line, input_lines, late_lines, is_terminal, line_if, types_passphrase, typing_line, work_input_lines, work_late_lines}
 use Rattle.s39_cli.specs.Work.{HasBadPassphrase, IsWorkOf, IsWorkOutput}
 use Rattle.s39_cli.proofs.Works.{ready_of_work}
@@ -209,7 +209,7 @@ module _ {E : Type 0} (contents : E → Option (List ℕ)) where
 
     -- a job whose text of a plan gives none
     pub said_of_plan : {W : Type 0} (j : Job) (secret : Text) (attended types tells : Bool) (error : PlanError) (reader : R) (ended : Ended R W)
-        (old new : Messages E) → HasBadPlan j secret error → IsSaidUnbegun contents attended (unready.Plan error) old new ended
+        (old new : Messages E) → HasBadPlan j secret error → IsSaidUnbegun contents attended (no_work.Plan error) old new ended
         → IsSaidOfJob remaining contents j attended types tells reader old new ended
     said_of_plan j secret attended types tells error reader NoMemory old new bad says = absurd says
     said_of_plan j secret attended types tells BadPlan reader (With status read_to written_to) old new bad (is, formless, other) = record {
@@ -228,25 +228,25 @@ module _ {E : Type 0} (contents : E → Option (List ℕ)) where
         refused_unbegun j attended types tells reader (With status read_to written_to) old new
         (formed_if_other j secret (OneOfMany group) bad (λ same. cc same)) (is, other (λ same. cc same))
 
-    pub said_unbegun : {W : Type 0} (j : Job) (secret : Text) (attended types tells : Bool) (u : Unready) (reader : R) (ended : Ended R W)
-        (old new : Messages E) → IsUnready j secret u → IsSaidUnbegun contents attended u old new ended
+    pub said_unbegun : {W : Type 0} (j : Job) (secret : Text) (attended types tells : Bool) (u : NoWork) (reader : R) (ended : Ended R W)
+        (old new : Messages E) → IsNoWork j secret u → IsSaidUnbegun contents attended u old new ended
         → IsSaidOfJob remaining contents j attended types tells reader old new ended
-    said_unbegun j secret attended types tells unready.Memory reader ended old new bad (none, says) =
+    said_unbegun j secret attended types tells no_work.Memory reader ended old new bad (none, says) =
         subst (IsSaidOfJob remaining contents j attended types tells reader old new) (sym none) says
-    said_unbegun j secret attended types tells unready.Secret reader NoMemory old new bad says = absurd says
-    said_unbegun j secret attended types tells unready.Secret reader (With status read_to written_to) old new bad (is, says) = record {
+    said_unbegun j secret attended types tells no_work.Secret reader NoMemory old new bad says = absurd says
+    said_unbegun j secret attended types tells no_work.Secret reader (With status read_to written_to) old new bad (is, says) = record {
       done = λ none. absurd (omega (arith, none, is));
       refused = λ one. absurd (omega (arith, one, is));
       formless = λ one. absurd (omega (arith, one, is));
       wrong = λ _. says;
     }
-    said_unbegun j secret attended types tells (unready.Plan error) reader ended old new bad says =
+    said_unbegun j secret attended types tells (no_work.Plan error) reader ended old new bad says =
         said_of_plan j secret attended types tells error reader ended old new bad says
-    said_unbegun j secret attended types tells (unready.Cursor cursor) reader ended old new bad says =
+    said_unbegun j secret attended types tells (no_work.Cursor cursor) reader ended old new bad says =
         refused_unbegun j attended types tells reader ended old new (formed_by_cursor j bad) says
-    said_unbegun j secret attended types tells (unready.Fingerprint fingerprint) reader ended old new bad says =
+    said_unbegun j secret attended types tells (no_work.Fingerprint fingerprint) reader ended old new bad says =
         refused_unbegun j attended types tells reader ended old new (formed_by_fingerprint j bad) says
-    said_unbegun j secret attended types tells (unready.Names names) reader ended old new bad says =
+    said_unbegun j secret attended types tells (no_work.Names names) reader ended old new bad says =
         refused_unbegun j attended types tells reader ended old new (formed_by_names j bad) says
 
 -- ---- nothing is said

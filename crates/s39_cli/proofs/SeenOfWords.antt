@@ -10,8 +10,8 @@ use Rattle.s39_command.specs.declared.command.NoJob.TheVariants.{Help, Refused, 
 use Rattle.s39_command.specs.Command.{GivesCall, shamir_app}
 use Rattle.s39_cli.specs.declared.runner.Ended.{Ended}
 use Rattle.s39_cli.specs.declared.runner.Ended.TheVariants.{With, NoMemory}
-use Rattle.s39_cli.specs.declared.work.Unready.{Unready}
-use Rattle.s39_cli.specs.declared.work.Unready.TheVariants as unready
+use Rattle.s39_cli.specs.declared.work.NoWork.{NoWork}
+use Rattle.s39_cli.specs.declared.work.NoWork.TheVariants as no_work
 use Rattle.s39_cli.specs.Ending.{EndsUnbegun, EndsWithoutJob, OnEnd}
 use Rattle.s39_cli.specs.Said.{IsAllOf, OnStatus}
 use Rattle.s39_cli.specs.Seen.{IsSeen, IsSeenOfJob, SeesJob}
@@ -19,15 +19,15 @@ use Rattle.s39_cli.specs.Values.{TakesValues, Told}
 
 module _ {P R W : Type 0} (sees : ℕ → P → P → Type 0) (remaining : R → Option (List ℕ)) (job : Job) (reader : R) (old new : P) where
   -- a job that isn't begun
-  pub unseen_unbegun : (u : Unready) (input : R) (writer : W) (ended : Ended R W) → EndsUnbegun u input writer ended
+  pub unseen_unbegun : (u : NoWork) (input : R) (writer : W) (ended : Ended R W) → EndsUnbegun u input writer ended
       → IsSeenOfJob sees remaining job reader old new ended
   unseen_unbegun u input writer NoMemory ends = tt
-  unseen_unbegun unready.Secret input writer (With status read_to written_to) ends = λ none. absurd (let two = ends.0 in omega (arith, two, none))
-  unseen_unbegun (unready.Plan error) input writer (With status read_to written_to) ends = λ none. absurd (let one = ends.0 in omega (arith, one, none))
-  unseen_unbegun (unready.Cursor error) input writer (With status read_to written_to) ends = λ none. absurd (let one = ends.0 in omega (arith, one, none))
-  unseen_unbegun (unready.Fingerprint error) input writer (With status read_to written_to) ends = λ none. absurd (let one = ends.0 in omega (arith, one, none))
-  unseen_unbegun (unready.Names error) input writer (With status read_to written_to) ends = λ none. absurd (let one = ends.0 in omega (arith, one, none))
-  unseen_unbegun unready.Memory input writer (With status read_to written_to) ends = λ none. absurd (cc)
+  unseen_unbegun no_work.Secret input writer (With status read_to written_to) ends = λ none. absurd (let two = ends.0 in omega (arith, two, none))
+  unseen_unbegun (no_work.Plan error) input writer (With status read_to written_to) ends = λ none. absurd (let one = ends.0 in omega (arith, one, none))
+  unseen_unbegun (no_work.Cursor error) input writer (With status read_to written_to) ends = λ none. absurd (let one = ends.0 in omega (arith, one, none))
+  unseen_unbegun (no_work.Fingerprint error) input writer (With status read_to written_to) ends = λ none. absurd (let one = ends.0 in omega (arith, one, none))
+  unseen_unbegun (no_work.Names error) input writer (With status read_to written_to) ends = λ none. absurd (let one = ends.0 in omega (arith, one, none))
+  unseen_unbegun no_work.Memory input writer (With status read_to written_to) ends = λ none. absurd (cc)
 
 module _ {P R W : Type 0} (sees : ℕ → P → P → Type 0) (told : Told) (remaining : R → Option (List ℕ)) (words : List Text) (reader : R) (old new : P) where
   -- words that give no job

@@ -16,8 +16,8 @@ use Rattle.s39_cli.specs.declared.runner.Ended.{Ended}
 use Rattle.s39_cli.specs.declared.runner.Ended.TheVariants.{With, NoMemory}
 use Rattle.s39_cli.specs.declared.runner.Source.{Source}
 use Rattle.s39_cli.specs.declared.runner.Source.TheVariants.{Terminal}
-use Rattle.s39_cli.specs.declared.work.Unready.{Unready}
-use Rattle.s39_cli.specs.declared.work.Unready.TheVariants as unready
+use Rattle.s39_cli.specs.declared.work.NoWork.{NoWork}
+use Rattle.s39_cli.specs.declared.work.NoWork.TheVariants as no_work
 use Rattle.s39_command.specs.Command.{AsksForText, GivesBadValues, GivesCall, shamir_app}
 use Rattle.s39_command.specs.declared.command.BadValues.{BadValues}
 use Rattle.s39_command.specs.declared.command.Call.{Call}
@@ -179,10 +179,10 @@ module _ {R W : Type 0} where
       OnEnd ended (λ status read_to written_to. (read_to ≡ reader) × EndsUnwritten is_long writer status written_to)
 
   -- how a job ends that isn't begun
-  abbrev pub EndsUnbegun : Unready → R → W → Ended R W → Type 0
-  EndsUnbegun unready.Secret reader writer ended = OnEnd ended (EndsAtOnce 2 reader writer)
-  EndsUnbegun (unready.Plan error) reader writer ended = OnEnd ended (EndsAtOnce 1 reader writer)
-  EndsUnbegun (unready.Cursor error) reader writer ended = OnEnd ended (EndsAtOnce 1 reader writer)
-  EndsUnbegun (unready.Fingerprint error) reader writer ended = OnEnd ended (EndsAtOnce 1 reader writer)
-  EndsUnbegun (unready.Names error) reader writer ended = OnEnd ended (EndsAtOnce 1 reader writer)
-  EndsUnbegun unready.Memory reader writer ended = ended ≡ NoMemory
+  abbrev pub EndsUnbegun : NoWork → R → W → Ended R W → Type 0
+  EndsUnbegun no_work.Secret reader writer ended = OnEnd ended (EndsAtOnce 2 reader writer)
+  EndsUnbegun (no_work.Plan error) reader writer ended = OnEnd ended (EndsAtOnce 1 reader writer)
+  EndsUnbegun (no_work.Cursor error) reader writer ended = OnEnd ended (EndsAtOnce 1 reader writer)
+  EndsUnbegun (no_work.Fingerprint error) reader writer ended = OnEnd ended (EndsAtOnce 1 reader writer)
+  EndsUnbegun (no_work.Names error) reader writer ended = OnEnd ended (EndsAtOnce 1 reader writer)
+  EndsUnbegun no_work.Memory reader writer ended = ended ≡ NoMemory

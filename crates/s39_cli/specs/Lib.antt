@@ -4,7 +4,7 @@ pub mod Outcome
 pub mod Said
 pub mod Seen
 pub mod Terminal
-pub mod Unready
+pub mod NoWork
 pub mod Untouched
 pub mod Values
 pub mod Work

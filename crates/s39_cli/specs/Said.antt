@@ -36,8 +36,8 @@ use Rattle.s39_cli.specs.declared.runner.Ended.TheVariants.{With, NoMemory}
 use Rattle.s39_cli.specs.declared.runner.Source.{Source}
 use Rattle.s39_cli.specs.declared.runner.Source.TheVariants as read_at
 use Rattle.s39_cli.specs.declared.runner.Terminals.{Terminals}
-use Rattle.s39_cli.specs.declared.work.Unready.{Unready}
-use Rattle.s39_cli.specs.declared.work.Unready.TheVariants.{Secret, Plan, Memory}
+use Rattle.s39_cli.specs.declared.work.NoWork.{NoWork}
+use Rattle.s39_cli.specs.declared.work.NoWork.TheVariants.{Secret, Plan, Memory}
 use Rattle.s39_cli.specs.declared.work.Work.{Work}
 use Rattle.s39_cli.specs.declared.work.Work.TheVariants as work
 use Rattle.s39_cli.specs.Ending.{AreAllOf, IsTyped, OnEnd}
@@ -339,7 +339,7 @@ module _ {E : Type 0} (contents : E → Option (List ℕ)) where
   SaysFault (Err fault) old new = SaysMessage old new
 
   -- why a job isn't begun is said, with its exit status, by whether a person looks on
-  abbrev pub IsSaidUnbegun : {R W : Type 0} → Bool → Unready → Messages E → Messages E → Ended R W → Type 0
+  abbrev pub IsSaidUnbegun : {R W : Type 0} → Bool → NoWork → Messages E → Messages E → Ended R W → Type 0
   IsSaidUnbegun attended Secret old new ended = OnStatus ended (λ status. (status ≡ 2) × Says contents old new secret_line)
   IsSaidUnbegun attended (Plan error) old new ended = OnStatus ended (λ status. (status ≡ 1)
       × (error ≡ BadPlan → SaysFormless attended old new) × (error ≢ BadPlan → SaysMessage old new))

@@ -115,7 +115,7 @@ fn has_failed(answer: &Result<bool, Fault>) -> bool
 }
 
 /// Writes a text and flushes the writer, and says whether all of the text has gone out.
-pub(crate) fn show<W: Write>(text: &str, output: W) -> (bool, W)
+pub(crate) fn show_text<W: Write>(text: &str, output: W) -> (bool, W)
     ensures { GoesOut (W.contents output) (W.contents result.1) text.now result.0 }
 {
     let mut output = Patient::new(output);

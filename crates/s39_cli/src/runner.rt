@@ -9,13 +9,13 @@ ghost use Rattle.s39_cli.specs.Seen.{IsSeen, IsSeenOfJob, SeesSome};
 ghost use Rattle.s39_cli.specs.Untouched.{IsUntouchedBy, IsUntouchedIfRefused};
 ghost use Rattle.s39_cli.specs.Work.{HasBadPassphrase};
 
-use crate::delivery::{by_lines, show, write_failed};
+use crate::delivery::{by_lines, show_text, write_failed};
 use crate::messages::Messages;
 use crate::notes::{NEW_SECRET, Notes, SHOWN, TYPING, is_attended, tells_of_drawing};
 use crate::random_file::{NoRandom, random_of};
-use crate::telling::{REASON_BYTES, answered, no_memory_left, report, say_of_file, unbegun};
-use crate::values::{NoValue, Secrets, Shelf, Unread, Values};
-use crate::work::{Unready, Work};
+use crate::telling::{REASON_BYTES, no_memory_left, report, say_of_file, tell_answer, unbegun};
+use crate::values::{NoValue, Secrets, Shelf, NoFileValue, Values};
+use crate::work::{NoWork, Work};
 use s39_command::{BadValues, Job, NoJob, read_words};
 use s39_tool::{Plan, Watch};
 use std::alloc::Global;
@@ -179,8 +179,8 @@ fn by_job<S: Shelf, R: Read + Drop, W: Write + Drop, E: Write, P: Watch>(
     let _judged = match Plan::parse(plan) {
         Ok(judged) => judged,
         Err(error) => {
-            let unready = Unready::Plan(error);
-            return unbegun(unready, notes.is_attended, input, output, errors);
+            let no_work = NoWork::Plan(error);
+            return unbegun(no_work, notes.is_attended, input, output, errors);
         }
     };
     let random = match random_of(alloc, shelf, name) {
@@ -188,7 +188,7 @@ fn by_job<S: Shelf, R: Read + Drop, W: Write + Drop, E: Write, P: Watch>(
         Err(NoRandom::Memory) => return no_memory_left(errors),
         Err(NoRandom::Failed(error)) => {
             let cause = NoValue::Failed(error);
-            return without_value(Unread { name, cause }, input, output, errors);
+            return without_value(NoFileValue { name, cause }, input, output, errors);
         }
     };
     let texts = Secrets {
@@ -233,11 +233,11 @@ fn by_texts<R: Read + Drop, W: Write + Drop, E: Write, P: Watch>(
 {
     let work = match Work::of(alloc, job, texts) {
         Ok(work) => work,
-        Err(unready) => return unbegun(unready, notes.is_attended, input, output, errors),
+        Err(no_work) => return unbegun(no_work, notes.is_attended, input, output, errors),
     };
     errors.say_if(asks(notes, &work), TYPING);
     let finished = by_lines(&work, input, output, notes, errors, watch);
-    answered(finished, errors)
+    tell_answer(finished, errors)
 }
 
 /// Whether mnemonics are about to be typed.
@@ -261,7 +261,7 @@ fn without_job<R: Drop, W: Write + Drop, E: Write>(
 {
     match no_job {
         NoJob::Help(text) => {
-            let (is_whole, output) = show(text.as_str(), output);
+            let (is_whole, output) = show_text(text.as_str(), output);
             let status = if is_whole {
                 DONE
             } else {
@@ -303,7 +303,7 @@ fn refuse_values<E: Write>(bad: BadValues, is_attended: bool, errors: &mut Messa
 
 /// Says why a value isn't read.
 fn without_value<R: Drop, W: Drop, E: Write>(
-    unread: Unread,
+    unread: NoFileValue,
     input: R,
     output: W,
     errors: &mut Messages<E>,
@@ -317,7 +317,7 @@ fn without_value<R: Drop, W: Drop, E: Write>(
     ensures said { OnEnd result (λ status read_to written_to. status ≡ 2
         → Says E.contents errors.old errors.new (long_line unread.entry.name.now)) }
 {
-    let Unread { name, cause } = unread;
+    let NoFileValue { name, cause } = unread;
     let status = match cause {
         NoValue::TooLong => {
             say_of_file(name, "the value has more than 1024 bytes", errors);

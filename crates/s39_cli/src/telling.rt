@@ -9,7 +9,7 @@ use crate::delivery::Finished;
 use crate::messages::Messages;
 use crate::notes::{BARE, PLAN_FORM};
 use crate::runner::{DEVICE_FAILED, DONE, Ended, NO_JOB, NO_MEMORY, REFUSED};
-use crate::work::Unready;
+use crate::work::NoWork;
 use s39_refusal::Cause;
 use s39_text::FaultText;
 use s39_tool::{Fault, PlanError, Refusal};
@@ -31,25 +31,25 @@ const FILE_BYTES: usize = NAME_BYTES + REASON_BYTES + 12;
 
 /// Says why a command can't be begun.
 pub(crate) fn unbegun<R: Drop, W: Drop, E: Write>(
-    unready: Unready,
+    no_work: NoWork,
     is_attended: bool,
     input: R,
     output: W,
     errors: &mut Messages<E>,
 ) -> Ended<R, W>
-    ensures ends { EndsUnbegun unready input output result }
-    ensures said { IsSaidUnbegun E.contents is_attended unready errors.old errors.new result }
+    ensures ends { EndsUnbegun no_work input output result }
+    ensures said { IsSaidUnbegun E.contents is_attended no_work errors.old errors.new result }
 {
-    let status = match unready {
-        Unready::Secret => {
+    let status = match no_work {
+        NoWork::Secret => {
             errors.say(b"shamir: master secret isn't hexadecimal\n");
             NO_JOB
         }
-        Unready::Plan(error) => refuse_plan(error, is_attended, errors),
-        Unready::Cursor(error) => refuse(error.cause(), errors),
-        Unready::Fingerprint(error) => refuse(error.cause(), errors),
-        Unready::Names(error) => refuse(error.cause(), errors),
-        Unready::Memory => return no_memory_left(errors),
+        NoWork::Plan(error) => refuse_plan(error, is_attended, errors),
+        NoWork::Cursor(error) => refuse(error.cause(), errors),
+        NoWork::Fingerprint(error) => refuse(error.cause(), errors),
+        NoWork::Names(error) => refuse(error.cause(), errors),
+        NoWork::Memory => return no_memory_left(errors),
     };
     Ended::With {
         status,
@@ -106,7 +106,7 @@ pub(crate) fn say_of_file<E: Write>(name: &str, reason: &str, errors: &mut Messa
 }
 
 /// Says what a command answered.
-pub(crate) fn answered<R: Drop, W: Drop, E: Write>(
+pub(crate) fn tell_answer<R: Drop, W: Drop, E: Write>(
     finished: Finished<R, W>,
     errors: &mut Messages<E>,
 ) -> Ended<R, W>

@@ -154,7 +154,7 @@ impl<'a, F: Files> Shelf for SystemFiles<'a, F> {
 
 /// Why the value in the file of this name isn't read.
 #[derive(Drop)]
-pub(crate) struct Unread<'a> {
+pub(crate) struct NoFileValue<'a> {
     pub(crate) name: &'a str,
     pub(crate) cause: NoValue,
 }
@@ -169,7 +169,7 @@ fn value_of_file<S: Shelf>(shelf: &S, name: &str) -> Result<Value, NoValue>
 }
 
 /// The value in the file of this name, if there is a name, and it isn't that of the input.
-fn in_file<'a, S: Shelf>(shelf: &S, name: Option<&'a str>) -> Result<Option<Value>, Unread<'a>>
+fn in_file<'a, S: Shelf>(shelf: &S, name: Option<&'a str>) -> Result<Option<Value>, NoFileValue<'a>>
     ensures value { IfOk result (λ value. IsInFile (S.told shelf.now) name.entry
         (option_map (λ held. held.items) value)) }
     ensures failed { OnErr result (name.entry ≢ None) }
@@ -183,7 +183,7 @@ fn in_file<'a, S: Shelf>(shelf: &S, name: Option<&'a str>) -> Result<Option<Valu
     };
     match value_of_file(shelf, name) {
         Ok(value) => Ok(Some(value)),
-        Err(cause) => Err(Unread { name, cause }),
+        Err(cause) => Err(NoFileValue { name, cause }),
     }
 }
 
@@ -193,7 +193,7 @@ fn in_line<'a, S: Shelf, R: Read>(
     input: &mut R,
     name: Option<&'a str>,
     in_file: Option<Value>,
-) -> Result<Option<Value>, Unread<'a>>
+) -> Result<Option<Value>, NoFileValue<'a>>
     requires { IsInFile (S.told shelf.now) name (option_map (λ held. held.items) in_file) }
     ensures value { IfOk result (λ value. TakesValue (S.told shelf.now) R.remaining name.entry
         (option_map (λ held. held.items) value) input.old input.new) }
@@ -208,7 +208,7 @@ fn in_line<'a, S: Shelf, R: Read>(
     };
     match value_in(input, Until::LineEnd) {
         Ok(value) => Ok(Some(value)),
-        Err(cause) => Err(Unread { name, cause }),
+        Err(cause) => Err(NoFileValue { name, cause }),
     }
 }
 
@@ -243,7 +243,7 @@ impl Values {
         shelf: &S,
         files: Texts<'a>,
         input: &mut R,
-    ) -> Result<Values, Unread<'a>>
+    ) -> Result<Values, NoFileValue<'a>>
         ensures values { IfOk result (λ values. TakesValues (S.told shelf.now) R.remaining files.entry
             (option_map (λ held. held.items) values.secret)
             (option_map (λ held. held.items) values.passphrase) input.old input.new) }

@@ -5,7 +5,7 @@ ghost use Rattle.s39_input.specs.Runs.{Runs};
 ghost use Rattle.s39_command.specs.Command.{IsInRange, text_in};
 ghost use Rattle.s39_cli.specs.Outcome.{IsCursor, IsNoted, WritesNoFingerprint, WritesNoNames};
 ghost use Rattle.s39_cli.specs.Outcome.{judged, status_of, told_in, where_done, without_mismatches};
-ghost use Rattle.s39_cli.specs.Unready.{IsNoReissue, IsUnready};
+ghost use Rattle.s39_cli.specs.NoWork.{IsNoReissue, IsNoWork};
 
 use crate::drilling::drill_told;
 use crate::messages::Messages;
@@ -84,7 +84,7 @@ pub(crate) enum Work<'a> {
 
 /// Why a command can't be begun.
 #[derive(Clone, Copy)]
-pub(crate) enum Unready {
+pub(crate) enum NoWork {
     /// The text of the master secret isn't hexadecimal, or has an odd number of digits.
     Secret,
     /// The text of the plan gives no plan.
@@ -99,43 +99,43 @@ pub(crate) enum Unready {
     Memory,
 }
 
-impl From<PlanError> for Unready {
-    ghost use Rattle.s39_cli.specs.declared.work.Unready.TheVariants.{Plan as BadPlan};
+impl From<PlanError> for NoWork {
+    ghost use Rattle.s39_cli.specs.declared.work.NoWork.TheVariants.{Plan as BadPlan};
 
-    ghost from_gives = { λ error unready. unready ≡ BadPlan error };
+    ghost from_gives = { λ error no_work. no_work ≡ BadPlan error };
 
-    fn from(error: PlanError) -> Unready {
-        Unready::Plan(error)
+    fn from(error: PlanError) -> NoWork {
+        NoWork::Plan(error)
     }
 }
 
-impl From<BadCursor> for Unready {
-    ghost use Rattle.s39_cli.specs.declared.work.Unready.TheVariants.{Cursor};
+impl From<BadCursor> for NoWork {
+    ghost use Rattle.s39_cli.specs.declared.work.NoWork.TheVariants.{Cursor};
 
-    ghost from_gives = { λ error unready. unready ≡ Cursor error };
+    ghost from_gives = { λ error no_work. no_work ≡ Cursor error };
 
-    fn from(error: BadCursor) -> Unready {
-        Unready::Cursor(error)
+    fn from(error: BadCursor) -> NoWork {
+        NoWork::Cursor(error)
     }
 }
 
-impl From<BadFingerprint> for Unready {
-    ghost use Rattle.s39_cli.specs.declared.work.Unready.TheVariants.{Fingerprint};
+impl From<BadFingerprint> for NoWork {
+    ghost use Rattle.s39_cli.specs.declared.work.NoWork.TheVariants.{Fingerprint};
 
-    ghost from_gives = { λ error unready. unready ≡ Fingerprint error };
+    ghost from_gives = { λ error no_work. no_work ≡ Fingerprint error };
 
-    fn from(error: BadFingerprint) -> Unready {
-        Unready::Fingerprint(error)
+    fn from(error: BadFingerprint) -> NoWork {
+        NoWork::Fingerprint(error)
     }
 }
 
-impl From<BadNames> for Unready {
-    ghost use Rattle.s39_cli.specs.declared.work.Unready.TheVariants.{Names};
+impl From<BadNames> for NoWork {
+    ghost use Rattle.s39_cli.specs.declared.work.NoWork.TheVariants.{Names};
 
-    ghost from_gives = { λ error unready. unready ≡ Names error };
+    ghost from_gives = { λ error no_work. no_work ≡ Names error };
 
-    fn from(error: BadNames) -> Unready {
-        Unready::Names(error)
+    fn from(error: BadNames) -> NoWork {
+        NoWork::Names(error)
     }
 }
 
@@ -175,7 +175,7 @@ impl Reissue {
     ghost use Rattle.s39_cli.specs.Work.{IsReissueOf};
 
     /// The plan and the names that these texts give. The plan is read first.
-    fn of(plan: &str, names: &str) -> Result<Reissue, Unready>
+    fn of(plan: &str, names: &str) -> Result<Reissue, NoWork>
         ensures reissue { IfOk result (IsReissueOf plan.now names.now) }
         ensures refused { IfErr result (IsNoReissue plan.now names.now) }
     {
@@ -194,10 +194,10 @@ impl<'a> Work<'a> {
     /// The work of a job, whose texts are read here: those of `create` are the secret and then the plan, those of `drill`
     /// the cursor and then the fingerprint, and those of `reissue` the plan and then the names. In place of a secret, `resplit` has its
     /// random bytes.
-    pub(crate) fn of(alloc: Global, job: Job<'a>, texts: Secrets<'a>) -> Result<Work<'a>, Unready>
+    pub(crate) fn of(alloc: Global, job: Job<'a>, texts: Secrets<'a>) -> Result<Work<'a>, NoWork>
         requires { IsInRange job }
         ensures work { IfOk result (IsWorkOf job.entry texts.entry.secret.now texts.entry.passphrase.now) }
-        ensures refused { IfErr result (IsUnready job.entry texts.entry.secret.now) }
+        ensures refused { IfErr result (IsNoWork job.entry texts.entry.secret.now) }
     {
         match job {
             Job::Show => Ok(Work::Show),

@@ -22,7 +22,7 @@ use crate::laws::each_mnemonic_is_a_line;
 use arrayvec::ArrayVec;
 use s39_backup::{Created, Options, Plan, create};
 use s39_input::{
-    Counting, DeviceFailure, Fault, Line, PIECE, Refusal, TooShort, Unwritten, WriteFailed,
+    Counting, DeviceFailure, Fault, Line, PIECE, Refusal, TooShort, NoOutput, WriteFailed,
     WrittenLines, line_of, put_lines, write_lines,
 };
 use s39_kdf::{check_passphrase, check_secret};
@@ -145,14 +145,14 @@ pub fn create_lines(
     options: Options,
     random: &[u8],
     text: &mut [u8],
-) -> Result<WrittenLines, Unwritten>
+) -> Result<WrittenLines, NoOutput>
     ensures { Puts (IsCreateOutput (asked_of plan.now secret.now passphrase.now options)
         (whole random.now)) text.old text.new result }
 {
     let mut created = Created::new();
     match create(plan, secret, passphrase, options, random, &mut created) {
         Ok(()) => Ok(put_mnemonics(created.shares(), text)?),
-        Err(error) => Err(Unwritten::Refused(Fault::from(error))),
+        Err(error) => Err(NoOutput::Refused(Fault::from(error))),
     }
 }
 
@@ -211,12 +211,12 @@ fn mnemonic_line(shares: &[Share], index: u16) -> Line
 pub(crate) fn put_answer(
     answer: &Result<Created, Fault>,
     text: &mut [u8],
-) -> Result<WrittenLines, Unwritten>
+) -> Result<WrittenLines, NoOutput>
     ensures { Puts (AreWritten answer.now) text.old text.new result }
 {
     match answer {
         Ok(created) => Ok(put_mnemonics(created.shares(), text)?),
-        Err(fault) => Err(Unwritten::Refused(*fault)),
+        Err(fault) => Err(NoOutput::Refused(*fault)),
     }
 }
 

@@ -18,7 +18,7 @@ ghost use Rattle.s39_backup.specs.declared.plan.Members.{Members};
 ghost use Rattle.s39_backup.specs.Created.{Asked, most_random};
 ghost use Rattle.s39_input.specs.Create.{IsCreateOutput};
 ghost use Rattle.s39_creating.specs.Reissue.{IsFirstOther, IsReissueOutput, TestPlans};
-ghost use Rattle.s39_input.specs.declared.slices.Unwritten.{Unwritten};
+ghost use Rattle.s39_input.specs.declared.slices.NoOutput.{NoOutput};
 ghost use Rattle.s39_input.specs.declared.slices.WrittenLines.{WrittenLines};
 ghost use Rattle.s39_input.specs.Slices.{Puts};
 
@@ -109,7 +109,7 @@ pub fn one_create_output()
 /// Putting what `create` writes into a slice has at most one result: one slice, and one answer.
 pub fn one_text_in_a_slice()
     ensures { (asked : Asked) (input : Input) (old new other : List ℕ)
-        (answer another : Result WrittenLines Unwritten)
+        (answer another : Result WrittenLines NoOutput)
         → Puts (IsCreateOutput asked input) old new answer
         → Puts (IsCreateOutput asked input) old other another
         → (new ≡ other) × (answer ≡ another) }

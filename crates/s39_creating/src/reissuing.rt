@@ -15,7 +15,7 @@ use crate::laws::created_backups_reissue;
 use s39_backup::{Created, Plan, is_of_plan, reissue};
 use s39_input::laws::every_input_is_read;
 use s39_input::{
-    Counting, DeviceFailure, Fault, Refusal, Unwritten, WrittenLines, read_set, set_in,
+    Counting, DeviceFailure, Fault, Refusal, NoOutput, WrittenLines, read_set, set_in,
 };
 use s39_set::{Quorum, SetLack, ShareSet};
 use std::io::{Read, Write};
@@ -160,7 +160,7 @@ pub fn reissue_lines(
     names: &Quorum,
     lines: &[u8],
     text: &mut [u8],
-) -> Result<WrittenLines, Unwritten>
+) -> Result<WrittenLines, NoOutput>
     ensures reissued { Puts
         (IsReissueOutput plan.now.group_threshold plan.now.groups.items names.now (whole lines.now))
         text.old text.new result }

@@ -10,7 +10,7 @@ use crate::creating::{put_answer, write_mnemonics};
 use crate::resplit_laws::created_backups_are_split_anew;
 use s39_backup::{Created, Plan, create_from_encrypted, resplit};
 use s39_input::{
-    Counting, DeviceFailure, Fault, Refusal, Unwritten, WrittenLines, read_set, set_in,
+    Counting, DeviceFailure, Fault, Refusal, NoOutput, WrittenLines, read_set, set_in,
 };
 use s39_kdf::{Params, check_secret};
 use s39_set::ShareSet;
@@ -131,7 +131,7 @@ pub fn resplit_lines(
     lines: &[u8],
     random: &[u8],
     text: &mut [u8],
-) -> Result<WrittenLines, Unwritten>
+) -> Result<WrittenLines, NoOutput>
     ensures resplit { Puts
         (IsResplitOutput plan.now.group_threshold plan.now.groups.items random.now (whole lines.now))
         text.old text.new result }
@@ -198,7 +198,7 @@ pub fn lines_from_encrypted(
     encrypted: &[u8],
     random: &[u8],
     text: &mut [u8],
-) -> Result<WrittenLines, Unwritten>
+) -> Result<WrittenLines, NoOutput>
     ensures { Puts (IsOutputFromEncrypted plan.now.group_threshold plan.now.groups.items random.now
         (params, encrypted.now)) text.old text.new result }
 {

@@ -18,8 +18,8 @@ use Rattle.s39_backup.specs.Outcome.{IsOutcome}
 use Rattle.s39_input.specs.declared.fault.Refusal.TheVariants.{Lack as LackRefusal, NotAQuorum as CursorRefusal}
 use Rattle.s39_input.specs.declared.fault.Fault.{Fault}
 use Rattle.s39_drilling.specs.declared.drill.Done.{Done}
-use Rattle.s39_drilling.specs.declared.drill.Undrilled.{Undrilled}
-use Rattle.s39_drilling.specs.declared.drill.Undrilled.TheVariants.{Lack, NotAQuorum}
+use Rattle.s39_drilling.specs.declared.drill.NoDrill.{NoDrill}
+use Rattle.s39_drilling.specs.declared.drill.NoDrill.TheVariants.{Lack, NotAQuorum}
 use Rattle.s39_kdf.specs.declared.secret_form.SecretForm.{SecretForm}
 use Rattle.s39_input.specs.Device.{Counted}
 use Rattle.s39_input.specs.Output.{WritesWhole, WritesPart}
@@ -84,21 +84,21 @@ pub record IsDrill (form : SecretForm) (set : List ShareFields) (passphrase : Li
   pub mismatches_are : mismatches ≡ mismatches_in form lines
 
 -- why a set isn't drilled: it has no quorum, or the given names aren't a quorum of it
-abbrev pub IsUndrilled : List ShareFields → Option Names → Undrilled → Type 0
-IsUndrilled set after (Lack lack) = IsLack set lack
-IsUndrilled set after NotAQuorum =
+abbrev pub IsNoDrill : List ShareFields → Option Names → NoDrill → Type 0
+IsNoDrill set after (Lack lack) = IsLack set lack
+IsNoDrill set after NotAQuorum =
     ((lack : SetLack) → ¬ IsLack set lack)
     × ((names : Names) × (after ≡ Some names) × ¬ IsQuorum set names)
 
 -- the fault of a set that isn't drilled
-abbrev pub fault_of_undrilled : Undrilled → Fault
-fault_of_undrilled (Lack lack) = fault_of (LackRefusal lack)
-fault_of_undrilled NotAQuorum = fault_of CursorRefusal
+abbrev pub fault_of_no_drill : NoDrill → Fault
+fault_of_no_drill (Lack lack) = fault_of (LackRefusal lack)
+fault_of_no_drill NotAQuorum = fault_of CursorRefusal
 
 -- the set has a quorum, and the given names are one of its quorums; or why the set isn't drilled
-abbrev pub IsDrillable : List ShareFields → Option Names → Result (Unit {0}) Undrilled → Type 0
+abbrev pub IsDrillable : List ShareFields → Option Names → Result (Unit {0}) NoDrill → Type 0
 IsDrillable set after (Ok _) = ((lack : SetLack) → ¬ IsLack set lack) × IfSome after (IsQuorum set)
-IsDrillable set after (Err cause) = IsUndrilled set after cause
+IsDrillable set after (Err cause) = IsNoDrill set after cause
 
 -- the lines of the drill of a set and the last line are written, and the answer is the number of its mismatches
 abbrev pub WritesLines : SecretForm → List ShareFields → List ℕ → Option Names → ℕ → List ℕ × Result Done Fault → Type 0
@@ -109,7 +109,7 @@ WritesLines form set passphrase after limit written =
 -- the set is drilled; or nothing is written, and the answer is why it isn't
 abbrev pub WritesDrillOf : SecretForm → List ℕ → Option Names → ℕ → List ShareFields → List ℕ × Result Done Fault → Type 0
 WritesDrillOf form passphrase after limit set =
-    Then (IsDrillable set after) (λ cause. nothing_for (fault_of_undrilled cause)) (λ _. WritesLines form set passphrase after limit)
+    Then (IsDrillable set after) (λ cause. nothing_for (fault_of_no_drill cause)) (λ _. WritesLines form set passphrase after limit)
 
 -- `drill` writes this text for the form of secrets, the passphrase, the quorum after which it starts, the limit and the
 -- input, and gives this answer. It judges the passphrase first, then the lines of the input, and then the set of their
@@ -140,7 +140,7 @@ ListsSecretOrCause form set secret after limit text (Ok done) =
     ((lack : SetLack) → ¬ IsLack set lack) × IfSome after (IsQuorum set)
     × ((lists : ListsSecret form set secret after limit text) × (done.mismatches ≡ unexpected_in form secret lists.listed))
 ListsSecretOrCause form set secret after limit text (Err fault) =
-    (text ≡ []) × ((cause : Undrilled) × IsUndrilled set after cause × (fault ≡ fault_of_undrilled cause))
+    (text ≡ []) × ((cause : NoDrill) × IsNoDrill set after cause × (fault ≡ fault_of_no_drill cause))
 
 -- This holds for the set of the input's shares, if the input holds mnemonics of a backup that was created with this
 -- passphrase.

@@ -10,8 +10,8 @@ use Rattle.s39_drilling.specs.declared.drill.Done.{Done}
 use Rattle.s39_input.specs.declared.fault.Fault.{Fault}
 use Rattle.s39_drilling.specs.declared.listing.Listing.{Listing}
 use Rattle.s39_input.specs.declared.slices.TooShort.{TooShort}
-use Rattle.s39_input.specs.declared.slices.Unwritten.{Unwritten}
-use Rattle.s39_input.specs.declared.slices.Unwritten.TheVariants.{Refused, TooShort as SliceTooShort}
+use Rattle.s39_input.specs.declared.slices.NoOutput.{NoOutput}
+use Rattle.s39_input.specs.declared.slices.NoOutput.TheVariants.{Refused, TooShort as SliceTooShort}
 use Rattle.s39_input.specs.Slices.{IsInFront}
 use Rattle.s39_kdf.specs.declared.secret_form.SecretForm.{SecretForm}
 use Rattle.s39_drilling.specs.Drill.{last_line, quorum_line, mismatch_in, IsDrill, IsNext}
@@ -42,7 +42,7 @@ IsTooShort IsOutput room short =
     × (short.needed ≡ length text) × (room < length text)
 
 -- the listing in a slice; or that the slice is too short, or the refusal, and then nothing changes
-abbrev pub Lists : (ℕ → List ℕ → Result Done Fault → Type 0) → ℕ → List ℕ → List ℕ → Result Listing Unwritten → Type 0
+abbrev pub Lists : (ℕ → List ℕ → Result Done Fault → Type 0) → ℕ → List ℕ → List ℕ → Result Listing NoOutput → Type 0
 Lists IsOutput limit old new (Ok listing) = ListsWhatFits IsOutput limit old new listing
 Lists IsOutput limit old new (Err (SliceTooShort short)) = IsTooShort IsOutput (length old) short × (new ≡ old)
 Lists IsOutput limit old new (Err (Refused fault)) = IsOutput limit [] (Err fault) × (new ≡ old)

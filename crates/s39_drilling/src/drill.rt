@@ -9,7 +9,7 @@ ghost use Rattle.s39_set.specs.Listing.{IsListing};
 ghost use Rattle.s39_set.specs.Quorums.{IsQuorum, IsFirstQuorumAfter};
 ghost use Rattle.s39_set.specs.ShareSet.{IsShareSet};
 ghost use Rattle.s39_backup.specs.Outcome.{AreParams, IsOutcome};
-ghost use Rattle.s39_drilling.specs.Drill.{IsNext, IsUndrilled, StartsAt, IsDrillOutput, DrillsCreated, WritesDrill};
+ghost use Rattle.s39_drilling.specs.Drill.{IsNext, IsNoDrill, StartsAt, IsDrillOutput, DrillsCreated, WritesDrill};
 ghost use Rattle.s39_drilling.specs.Drill.{in_bytes, mismatch_in, mismatch_text, outcome_text, quorum_line, last_line};
 ghost use Rattle.s39_drilling.specs.Watching.{SeesListing, WritesFirst};
 ghost use Rattle.s39_input.specs.declared.output.TheConstants.{LINE_BYTES};
@@ -38,32 +38,32 @@ pub struct Done {
 
 /// Why a set isn't drilled.
 #[derive(Clone, Copy, Debug)]
-pub enum Undrilled {
+pub enum NoDrill {
     /// The set has no quorum.
     Lack(SetLack),
     /// The names after which the drill is to start aren't a quorum of the set.
     NotAQuorum,
 }
 
-impl From<SetLack> for Undrilled {
-    ghost use Rattle.s39_drilling.specs.declared.drill.Undrilled.TheVariants.{Lack};
+impl From<SetLack> for NoDrill {
+    ghost use Rattle.s39_drilling.specs.declared.drill.NoDrill.TheVariants.{Lack};
 
     ghost from_gives = { λ lack cause. cause ≡ Lack lack };
 
-    fn from(lack: SetLack) -> Undrilled {
-        Undrilled::Lack(lack)
+    fn from(lack: SetLack) -> NoDrill {
+        NoDrill::Lack(lack)
     }
 }
 
-impl From<Undrilled> for Fault {
-    ghost use Rattle.s39_drilling.specs.Drill.{fault_of_undrilled};
+impl From<NoDrill> for Fault {
+    ghost use Rattle.s39_drilling.specs.Drill.{fault_of_no_drill};
 
-    ghost from_gives = { λ cause fault. fault ≡ fault_of_undrilled cause };
+    ghost from_gives = { λ cause fault. fault ≡ fault_of_no_drill cause };
 
-    fn from(cause: Undrilled) -> Fault {
+    fn from(cause: NoDrill) -> Fault {
         match cause {
-            Undrilled::Lack(lack) => Fault::from(Refusal::Lack(lack)),
-            Undrilled::NotAQuorum => Fault::from(Refusal::NotAQuorum),
+            NoDrill::Lack(lack) => Fault::from(Refusal::Lack(lack)),
+            NoDrill::NotAQuorum => Fault::from(Refusal::NotAQuorum),
         }
     }
 }
@@ -146,17 +146,17 @@ pub fn run_drill<R: Read, W: Write>(
 /// - `NotAQuorum` if the given names aren't a quorum of the shares.
 ///
 /// The example of `list_from` calls it.
-pub fn start_of(set: &ShareSet, after: Option<&Quorum>) -> Result<Option<Quorum>, Undrilled>
+pub fn start_of(set: &ShareSet, after: Option<&Quorum>) -> Result<Option<Quorum>, NoDrill>
     ensures is_set { IsShareSet set.now }
     ensures start { IfOk result (StartsAt set.now (option_copied after.entry)) }
-    ensures refused { IfErr result (IsUndrilled set.now (option_copied after.entry)) }
+    ensures refused { IfErr result (IsNoDrill set.now (option_copied after.entry)) }
 {
     let least = first(set)?;
     match after {
         None => Ok(Some(least)),
         Some(quorum) => match next_after(set, quorum, &mut Looks::new()) {
             Ok(next) => Ok(next),
-            Err(NotAQuorum) => Err(Undrilled::NotAQuorum),
+            Err(NotAQuorum) => Err(NoDrill::NotAQuorum),
         },
     }
 }

@@ -15,7 +15,7 @@ ghost use Rattle.s39_set.specs.Names.{Names};
 ghost use Rattle.s39_drilling.specs.declared.drill.Done.{Done};
 ghost use Rattle.s39_drilling.specs.Drill.{DrillLaws, IsDrill, IsDrillOutput, DrillsCreated};
 ghost use Rattle.s39_drilling.specs.declared.listing.Listing.{Listing};
-ghost use Rattle.s39_input.specs.declared.slices.Unwritten.{Unwritten};
+ghost use Rattle.s39_input.specs.declared.slices.NoOutput.{NoOutput};
 ghost use Rattle.s39_drilling.specs.Slices.{Lists};
 
 pub use crate::length_laws::{each_listed_quorum_is_a_line, first_lines_are_short};
@@ -60,7 +60,7 @@ pub(crate) fn drill_laws()
 /// For a passphrase, an optional list of names to start after, and a limit, a set has at most one drill. That is, there
 /// is at most one text, one answer whether more quorums remain, and one number of mismatches. There is such a drill if
 /// the limit is at least 1.
-pub fn one_drill()
+pub fn one_drill_of_a_set()
     ensures once { (form : SecretForm) (set : List ShareFields) (passphrase : List ℕ) (after : Option Names)
         (limit : ℕ) (text other : List ℕ) (more another : Option Names)
         (mismatches others : ℕ) → IsShareSet set
@@ -109,7 +109,7 @@ pub fn one_drill_output()
 /// The listing of an input in a slice has at most one result: one slice, and one answer.
 pub fn one_listing_in_a_slice()
     ensures { (form : SecretForm) (passphrase : List ℕ) (after : Option Names) (limit : ℕ) (input : Input)
-        (old new other : List ℕ) (answer another : Result Listing Unwritten)
+        (old new other : List ℕ) (answer another : Result Listing NoOutput)
         → Lists (λ n. IsDrillOutput form passphrase after n input) limit old new answer
         → Lists (λ n. IsDrillOutput form passphrase after n input) limit old other another
         → (new ≡ other) × (answer ≡ another) }

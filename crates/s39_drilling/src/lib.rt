@@ -13,6 +13,6 @@ mod listing;
 mod round_trips;
 mod watch;
 
-pub use drill::{Done, Undrilled, list_from, run_drill, start_of};
+pub use drill::{Done, NoDrill, list_from, run_drill, start_of};
 pub use listing::{Listing, drill_lines, drill_set};
 pub use watch::{Unwatched, Watch};

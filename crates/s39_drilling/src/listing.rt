@@ -15,7 +15,7 @@ ghost use Rattle.s39_drilling.specs.Slices.{Lists, IsTried, Fills};
 use crate::drill::{following, last_line, mismatch_in, outcome_of, quorum_line, start_of};
 use crate::laws::drill_laws;
 use s39_backup::{Memo, params_of};
-use s39_input::{Fault, Line, SecretForm, TooShort, Unwritten, checked_set_in, put};
+use s39_input::{Fault, Line, SecretForm, TooShort, NoOutput, checked_set_in, put};
 use s39_set::laws::listings_join;
 use s39_set::{Looks, Quorum, ShareSet};
 
@@ -71,7 +71,7 @@ pub fn drill_lines(
     limit: u32,
     lines: &[u8],
     text: &mut [u8],
-) -> Result<Listing, Unwritten>
+) -> Result<Listing, NoOutput>
     requires some { 1 ≤ limit }
     ensures { Lists (λ n. IsDrillOutput form passphrase.now
         (option_copied after.entry) n (whole lines.now))
@@ -110,7 +110,7 @@ pub fn drill_set(
     limit: u32,
     set: &ShareSet,
     text: &mut [u8],
-) -> Result<Listing, Unwritten>
+) -> Result<Listing, NoOutput>
     requires printable { All IsPrintable passphrase.now }
     requires some { 1 ≤ limit }
     ensures { Lists (λ n text answer. WritesDrillOf form passphrase.now

@@ -1,5 +1,5 @@
 -- The lines of an input, and how they are taken.
-pub mod Parts
+pub mod PartsBetweenLineFeeds
 pub mod Reading
-pub mod Held
-pub mod Led
+pub mod SaidByLines
+pub mod RunsOfLines

@@ -1,8 +1,8 @@
 -- The output of a command that answers each line of its input by itself.
 use Rattle.std.specs.Prelude.{◌≡◌, ℕ, suc, Bool, List, [], ◌∷◌, map, Option, Result, Ok, Err}
 use Rattle.std.specs.List.{flat_map}
-use Rattle.s39_input.specs.declared.each_line.Unanswered.{Unanswered}
-use Rattle.s39_input.specs.declared.each_line.Unanswered.TheVariants.{Line, WriteFailed}
+use Rattle.s39_input.specs.declared.each_line.NoAnswer.{NoAnswer}
+use Rattle.s39_input.specs.declared.each_line.NoAnswer.TheVariants.{Line, WriteFailed}
 use Rattle.s39_input.specs.declared.fault.LineRefusal.{LineRefusal}
 use Rattle.s39_input.specs.declared.fault.Stop.{Stop}
 use Rattle.s39_input.specs.declared.fault.Stop.TheVariants.{AtLine, ReadFailed}
@@ -31,7 +31,7 @@ output_of_each text_of answer_to say input =
 module _ {W S H : Type 0} (contents : W → Option (List ℕ)) (Says : List ℕ → Result H LineRefusal → Type 0) (text_of : H → List ℕ) (output : S → Counted W)
     (Follows : S → List H → S → Type 0) where
   -- What is written for a line, or why nothing is. One state of the run follows another, given what the lines between them say.
-  abbrev pub AnswersLine : S → List ℕ → Result (Unit {0}) Unanswered → S → Type 0
+  abbrev pub AnswersLine : S → List ℕ → Result (Unit {0}) NoAnswer → S → Type 0
   AnswersLine old line (Ok _) new =
       (said : H) × Says line (Ok said) × WritesWhole contents (output old) (text_of said) (output new) × Follows old (said ∷ []) new
   AnswersLine old line (Err (Line refusal)) new = Says line (Err refusal) × (old ≡ new)
@@ -39,16 +39,16 @@ module _ {W S H : Type 0} (contents : W → Option (List ℕ)) (Says : List ℕ 
       (said : H) × Says line (Ok said) × WritesPart contents (output old) (text_of said) (output new) × Follows old [] new
 
 -- the fault of a line that isn't answered
-abbrev pub fault_of_line : ℕ → Unanswered → Fault
+abbrev pub fault_of_line : ℕ → NoAnswer → Fault
 fault_of_line number (Line refusal) = fault_of_stop (AtLine (record { number = number; refusal = refusal }))
 fault_of_line number WriteFailed = fault_of (Device Write)
 
 -- the fault of a run that stopped for this cause
-abbrev pub fault_of_unanswered : Stop Unanswered → Fault
-fault_of_unanswered (AtLine refused) = fault_of_line refused.number refused.refusal
-fault_of_unanswered ReadFailed = fault_of_stop ReadFailed
+abbrev pub fault_of_no_answer : Stop NoAnswer → Fault
+fault_of_no_answer (AtLine refused) = fault_of_line refused.number refused.refusal
+fault_of_no_answer ReadFailed = fault_of_stop ReadFailed
 
 -- the answer of a run that stopped so: this if all lines are answered
-abbrev pub answered : {T : Type 0} → T → Result (Unit {0}) (Stop Unanswered) → Result T Fault
+abbrev pub answered : {T : Type 0} → T → Result (Unit {0}) (Stop NoAnswer) → Result T Fault
 answered done (Ok _) = Ok done
-answered done (Err stop) = Err (fault_of_unanswered stop)
+answered done (Err stop) = Err (fault_of_no_answer stop)

@@ -2,8 +2,8 @@
 use Rattle.std.specs.Prelude.{◌≡◌, ℕ, ◌<◌, ◌≤◌, List, ◌++◌, length, drop, [], Result, Ok, Err}
 use Rattle.s39_input.specs.declared.fault.Fault.{Fault}
 use Rattle.s39_input.specs.declared.slices.TooShort.{TooShort}
-use Rattle.s39_input.specs.declared.slices.Unwritten.{Unwritten}
-use Rattle.s39_input.specs.declared.slices.Unwritten.TheVariants.{Refused, TooShort as SliceTooShort}
+use Rattle.s39_input.specs.declared.slices.NoOutput.{NoOutput}
+use Rattle.s39_input.specs.declared.slices.NoOutput.TheVariants.{Refused, TooShort as SliceTooShort}
 use Rattle.s39_input.specs.declared.slices.WrittenLines.{WrittenLines}
 use Rattle.s39_input.specs.Input.{lines_in}
 
@@ -19,7 +19,7 @@ PutsText text old new (Err short) = (short.needed ≡ length text) × (length ol
 
 -- The text of a command with these outputs stands at the front of a slice, and the answer is its length and the number of
 -- its lines. Or the text doesn't fit, or the command is refused, and then nothing changes.
-abbrev pub Puts : (List ℕ → Result (Unit {0}) Fault → Type 0) → List ℕ → List ℕ → Result WrittenLines Unwritten → Type 0
+abbrev pub Puts : (List ℕ → Result (Unit {0}) Fault → Type 0) → List ℕ → List ℕ → Result WrittenLines NoOutput → Type 0
 Puts IsOutput old new (Ok put) =
     (text : List ℕ) × IsOutput text (Ok tt) × IsInFront text old new × (put.written ≡ length text) × (put.lines ≡ lines_in text)
 Puts IsOutput old new (Err (SliceTooShort short)) =

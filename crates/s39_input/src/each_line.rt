@@ -1,12 +1,12 @@
 //! What the commands share that answer each line of their input by itself.
 ghost use Rattle.std.specs.Prelude.{◌≡◌};
-ghost use Rattle.s39_input.specs.EachLine.{answered, fault_of_unanswered};
+ghost use Rattle.s39_input.specs.EachLine.{answered, fault_of_no_answer};
 
 use crate::fault::{DeviceFailure, Fault, LineRefusal, Refusal, Stop};
 
 /// Why a line isn't answered.
 #[derive(Clone, Copy)]
-pub(crate) enum Unanswered {
+pub(crate) enum NoAnswer {
     /// The line is refused.
     Line(LineRefusal),
     /// A write of its answer failed.
@@ -14,27 +14,27 @@ pub(crate) enum Unanswered {
 }
 
 /// The fault of a run that stopped for this cause.
-fn fault_of_unanswered(stop: Stop<Unanswered>) -> Fault
-    ensures { result ≡ fault_of_unanswered stop }
+fn fault_of_no_answer(stop: Stop<NoAnswer>) -> Fault
+    ensures { result ≡ fault_of_no_answer stop }
 {
     match stop {
         Stop::AtLine(refused) => match refused.refusal {
-            Unanswered::Line(refusal) => Fault {
+            NoAnswer::Line(refusal) => Fault {
                 line: Some(refused.number),
                 refusal: Refusal::Line(refusal),
             },
-            Unanswered::WriteFailed => Fault::from(Refusal::Device(DeviceFailure::Write)),
+            NoAnswer::WriteFailed => Fault::from(Refusal::Device(DeviceFailure::Write)),
         },
         Stop::ReadFailed => Fault::from(Refusal::Device(DeviceFailure::Read)),
     }
 }
 
 /// The answer of a run over the lines of an input: `done` if all are answered, and otherwise the fault.
-pub(crate) fn answered<T: Copy>(done: T, stopped: Result<(), Stop<Unanswered>>) -> Result<T, Fault>
+pub(crate) fn answered<T: Copy>(done: T, stopped: Result<(), Stop<NoAnswer>>) -> Result<T, Fault>
     ensures { result ≡ answered done stopped }
 {
     match stopped {
         Ok(()) => Ok(done),
-        Err(stop) => Err(fault_of_unanswered(stop)),
+        Err(stop) => Err(fault_of_no_answer(stop)),
     }
 }

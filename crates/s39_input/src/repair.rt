@@ -9,7 +9,7 @@ ghost use Rattle.s39_input.specs.Repair.{IsRepairOutput, MarksSay, shares_of};
 ghost use Rattle.s39_input.specs.Runs.{Runs};
 
 use crate::device::Counting;
-use crate::each_line::{Unanswered, answered};
+use crate::each_line::{NoAnswer, answered};
 use crate::fault::{Fault, LineRefusal};
 use crate::lines::{TakeLine, is_skipped, take_lines};
 use crate::output::{WriteFailed, write_text};
@@ -79,10 +79,10 @@ impl<W: Write> TakeLine for Repairing<'_, W> {
     ghost use Rattle.std.proofs.Common.{inl};
     ghost use Rattle.s39_input.specs.EachLine.{AnswersLine};
     ghost use Rattle.s39_input.specs.Repair.{MarksSay, RepairsTo, fits_one, mnemonics_text};
-    ghost use Rattle.s39_input.specs.declared.each_line.Unanswered.TheVariants.{Line as AtLine};
+    ghost use Rattle.s39_input.specs.declared.each_line.NoAnswer.TheVariants.{Line as AtLine};
     ghost use Rattle.s39_input.specs.declared.fault.LineRefusal.TheVariants.{TooLong};
 
-    type Refusal = Unanswered;
+    type Refusal = NoAnswer;
 
     ghost can_take = { λ repairing. repairing.output.now.failures < 2 ^ 64 - 1 };
 
@@ -93,7 +93,7 @@ impl<W: Write> TakeLine for Repairing<'_, W> {
 
     ghost length_refusal = { AtLine TooLong };
 
-    fn take_line(&mut self, line: &[u8]) -> Result<(), Unanswered> {
+    fn take_line(&mut self, line: &[u8]) -> Result<(), NoAnswer> {
         match repaired_in(line) {
             Ok(Some(repaired)) => {
                 let lines = lines_of_repaired(&repaired);
@@ -104,16 +104,16 @@ impl<W: Write> TakeLine for Repairing<'_, W> {
                         }
                         Ok(())
                     }
-                    Err(WriteFailed) => Err(Unanswered::WriteFailed),
+                    Err(WriteFailed) => Err(NoAnswer::WriteFailed),
                 }
             }
             Ok(None) => Ok(()),
-            Err(refusal) => Err(Unanswered::Line(refusal)),
+            Err(refusal) => Err(NoAnswer::Line(refusal)),
         }
     }
 
-    fn too_long() -> Unanswered {
-        Unanswered::Line(LineRefusal::TooLong)
+    fn too_long() -> NoAnswer {
+        NoAnswer::Line(LineRefusal::TooLong)
     }
 
     ghost refuses_long = { λ repairing line long. (inl (long, refl), refl) };

@@ -5,7 +5,7 @@ ghost use Rattle.s39_input.specs.Runs.{Runs};
 ghost use Rattle.s39_input.specs.Show.{IsShowOutput, header_text, show_line};
 
 use crate::device::Counting;
-use crate::each_line::{Unanswered, answered};
+use crate::each_line::{NoAnswer, answered};
 use crate::fault::{Fault, LineRefusal};
 use crate::lines::{TakeLine, share_in, take_lines};
 use crate::output::{Line, WriteFailed, push_field, push_hex, push_text, write_text};
@@ -39,7 +39,7 @@ fn push_header(line: &mut Line, share: &Share)
 }
 
 /// The line that shows a share.
-fn line_of(share: &Share) -> Line
+fn shown_line(share: &Share) -> Line
     ensures { result.items ≡ show_line share.now }
 {
     let mut line = Line::new();
@@ -58,10 +58,10 @@ impl<W: Write> TakeLine for Counting<W> {
     ghost use Rattle.s39_input.specs.Lines.{share_in};
     ghost use Rattle.s39_input.specs.Theory.LongLines.{long_is_refused};
     ghost use Rattle.s39_input.specs.Show.{line_text};
-    ghost use Rattle.s39_input.specs.declared.each_line.Unanswered.TheVariants.{Line as AtLine};
+    ghost use Rattle.s39_input.specs.declared.each_line.NoAnswer.TheVariants.{Line as AtLine};
     ghost use Rattle.s39_input.specs.declared.fault.LineRefusal.TheVariants.{TooLong, Word};
 
-    type Refusal = Unanswered;
+    type Refusal = NoAnswer;
 
     ghost can_take = { λ output. output.failures < 2 ^ 64 - 1 };
 
@@ -70,19 +70,19 @@ impl<W: Write> TakeLine for Counting<W> {
 
     ghost length_refusal = { AtLine TooLong };
 
-    fn take_line(&mut self, line: &[u8]) -> Result<(), Unanswered> {
+    fn take_line(&mut self, line: &[u8]) -> Result<(), NoAnswer> {
         match share_in(line) {
-            Ok(Some(share)) => match write_text(self, line_of(&share).as_slice()) {
+            Ok(Some(share)) => match write_text(self, shown_line(&share).as_slice()) {
                 Ok(()) => Ok(()),
-                Err(WriteFailed) => Err(Unanswered::WriteFailed),
+                Err(WriteFailed) => Err(NoAnswer::WriteFailed),
             },
             Ok(None) => Ok(()),
-            Err(refusal) => Err(Unanswered::Line(refusal)),
+            Err(refusal) => Err(NoAnswer::Line(refusal)),
         }
     }
 
-    fn too_long() -> Unanswered {
-        Unanswered::Line(LineRefusal::TooLong)
+    fn too_long() -> NoAnswer {
+        NoAnswer::Line(LineRefusal::TooLong)
     }
 
     ghost refuses_long = { λ output line long. (long_is_refused Word line (reading line) long, refl) };

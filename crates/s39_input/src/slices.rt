@@ -21,30 +21,30 @@ pub struct TooShort {
 
 /// Why nothing was put into a slice.
 #[derive(Clone, Copy, Debug)]
-pub enum Unwritten {
+pub enum NoOutput {
     /// The request was refused.
     Refused(Fault),
     /// The slice is too short for the text.
     TooShort(TooShort),
 }
 
-impl From<Fault> for Unwritten {
-    ghost use Rattle.s39_input.specs.declared.slices.Unwritten.TheVariants.{Refused};
+impl From<Fault> for NoOutput {
+    ghost use Rattle.s39_input.specs.declared.slices.NoOutput.TheVariants.{Refused};
 
     ghost from_gives = { λ fault cause. cause ≡ Refused fault };
 
-    fn from(fault: Fault) -> Unwritten {
-        Unwritten::Refused(fault)
+    fn from(fault: Fault) -> NoOutput {
+        NoOutput::Refused(fault)
     }
 }
 
-impl From<TooShort> for Unwritten {
-    ghost use Rattle.s39_input.specs.declared.slices.Unwritten.TheVariants.{TooShort as IsTooShort};
+impl From<TooShort> for NoOutput {
+    ghost use Rattle.s39_input.specs.declared.slices.NoOutput.TheVariants.{TooShort as IsTooShort};
 
     ghost from_gives = { λ short cause. cause ≡ IsTooShort short };
 
-    fn from(short: TooShort) -> Unwritten {
-        Unwritten::TooShort(short)
+    fn from(short: TooShort) -> NoOutput {
+        NoOutput::TooShort(short)
     }
 }
 

@@ -1,6 +1,6 @@
 pub mod Xor
 pub mod Lengths
-pub mod Parts
+pub mod JoinedParts
 pub mod ByteValues
 pub mod Rounds
 pub mod Halves

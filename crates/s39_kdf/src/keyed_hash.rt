@@ -82,7 +82,7 @@ pub(crate) fn absorb(hasher: &mut Sha256, parts: &[&[u8]])
 }
 
 /// The key in these parts, or its digest if it is longer than a block.
-#[tactic(auto, using(crate::proofs::Parts::joined_front_le))]
+#[tactic(auto, using(crate::proofs::JoinedParts::joined_front_le))]
 fn short_key(key: &[&[u8]]) -> ArrayVec<u8, BLOCK_BYTES>
     ensures { result.items ≡ short_key (joined_parts key.now) }
 {

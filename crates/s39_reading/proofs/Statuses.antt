@@ -4,8 +4,8 @@ use Rattle.s39_words.specs.declared.ShareFields.{ShareFields}
 use Rattle.s39_input.specs.declared.fault.LineRefusal.{LineRefusal}
 use Rattle.s39_input.specs.declared.fault.Stop.{Stop}
 use Rattle.s39_input.specs.declared.fault.Stop.TheVariants.{AtLine, ReadFailed}
-use Rattle.s39_input.specs.declared.slices.Unwritten.{Unwritten}
-use Rattle.s39_input.specs.declared.slices.Unwritten.TheVariants.{Refused, TooShort}
+use Rattle.s39_input.specs.declared.slices.NoOutput.{NoOutput}
+use Rattle.s39_input.specs.declared.slices.NoOutput.TheVariants.{Refused, TooShort}
 use Rattle.s39_input.specs.Accepted.{IsReadAs}
 use Rattle.s39_input.specs.Fault.{fault_of_stop, read_failures_in, stop_failures}
 use Rattle.s39_input.specs.Input.{Input}
@@ -20,7 +20,7 @@ refused_reads (AtLine refused) = refl
 refused_reads ReadFailed = refl
 
 -- what is put into a slice for the set that an input is read as is put there for the input
-pub puts_of_set : (input : Input) (set : List ShareFields) → IsReadAs input (Ok set) → (old new : List ℕ) (result : Result WrittenStatus Unwritten)
+pub puts_of_set : (input : Input) (set : List ShareFields) → IsReadAs input (Ok set) → (old new : List ℕ) (result : Result WrittenStatus NoOutput)
     → PutsStatus (IsStatusOf set) old new result → PutsStatus (IsStatusOutput input) old new result
 puts_of_set input set read old new (Ok told) (text, is, front, bytes) = (text, gives set read is, front, bytes)
 puts_of_set input set read old new (Err (TooShort short)) (text, status, is, needed, long, same) = (text, status, gives set read is, needed, long, same)

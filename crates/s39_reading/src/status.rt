@@ -10,7 +10,7 @@ ghost use Rattle.s39_input.specs.Accepted.{IsReadAs};
 ghost use Rattle.s39_reading.specs.Status.{IsStatusOf, IsStatusOutput, first_line, group_line, group_text, lines_of_status, status_text};
 
 use s39_input::{
-    Counting, DeviceFailure, Fault, Line, Refusal, Unwritten, push_field, push_names, put_lines,
+    Counting, DeviceFailure, Fault, Line, Refusal, NoOutput, push_field, push_names, put_lines,
     read_set, set_in, write_lines,
 };
 use s39_set::{GroupStatus, MAX_GROUPS, SetLack, ShareSet, Status, group_status_of, status_of};
@@ -94,7 +94,7 @@ pub struct WrittenStatus {
 /// assert_eq!(rt; (answer.written, answer.status.is_enough()), (41, false));
 /// assert!(rt; text.starts_with(b"groups 1 of 2\ngroup 1 members 1 of 1 1.0\n"));
 /// ```
-pub fn status_lines(lines: &[u8], text: &mut [u8]) -> Result<WrittenStatus, Unwritten>
+pub fn status_lines(lines: &[u8], text: &mut [u8]) -> Result<WrittenStatus, NoOutput>
     ensures { PutsStatus (IsStatusOutput (whole lines.now)) text.old text.new result }
 {
     let set = shares_in(lines)?;
@@ -116,11 +116,11 @@ pub fn status_lines(lines: &[u8], text: &mut [u8]) -> Result<WrittenStatus, Unwr
 /// assert_eq!(rt; set_status(&set, &mut text)?.written, 41);
 /// assert!(rt; text.starts_with(b"groups 1 of 2\ngroup 1 members 1 of 1 1.0\n"));
 /// ```
-pub fn set_status(set: &ShareSet, text: &mut [u8]) -> Result<WrittenStatus, Unwritten>
+pub fn set_status(set: &ShareSet, text: &mut [u8]) -> Result<WrittenStatus, NoOutput>
     ensures { PutsStatus (IsStatusOf set.now) text.old text.new result }
 {
     let Some(status) = status_of(set) else {
-        return Err(Unwritten::from(Fault::from(SetLack::NoShares)));
+        return Err(NoOutput::from(Fault::from(SetLack::NoShares)));
     };
     let written = put_lines(text, LINES, &|index| line_at(set, status, index))?;
     Ok(WrittenStatus { written, status })

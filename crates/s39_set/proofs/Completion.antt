@@ -20,7 +20,7 @@ use Rattle.s39_set.proofs.CompleteGroups.{threshold_from_complete, is_complete-n
 use Rattle.s39_set.proofs.CompleteGroups.{Contains-complete_groups, complete_groups-ascending, same_groups}
 use Rattle.s39_lists.proofs.Ranges.{range_from-ascending, range_from-bounds, Contains-range_from, filter-range_agree, range-split}
 use Rattle.s39_set.proofs.MembersOf.{count, of_group, in_group, group-ascending, one_counted, counted, none_counted, count-append}
-use Rattle.s39_set.proofs.Just.{exact_at, exact_group, one_complete, complete_at_hand, HasNoRoom, not_greater}
+use Rattle.s39_set.proofs.ExactNames.{exact_at, exact_group, one_complete, complete_at_hand, HasNoRoom, not_greater}
 
 -- ---- lists joined end to end
 

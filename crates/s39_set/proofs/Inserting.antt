@@ -13,7 +13,7 @@ use Rattle.s39_lists.proofs.Sublists.{Contains-head, Contains-cons}
 use Rattle.s39_lists.proofs.Pairs.{AllPairs-head, AllPairs-tail, AllPairs-nil}
 use Rattle.s39_set.proofs.Ascending.{name_cmp_total}
 use Rattle.s39_set.proofs.NamesOrder.{name_cmp-equal}
-use Rattle.s39_set.proofs.Joins.{joins_from_none, same_from_joins}
+use Rattle.s39_set.proofs.SharesThatJoin.{joins_from_none, same_from_joins}
 use Rattle.s39_set.proofs.OneMore.{All-more, set_more}
 
 -- one of these shares has the name of that one

@@ -10,7 +10,7 @@ use Rattle.s39_set.specs.Quorums.{group_threshold_of, member_threshold_of, HasJu
 use Rattle.s39_lists.proofs.Sublists.{each}
 use Rattle.s39_lists.proofs.Ranges.{filter-range_agree}
 use Rattle.s39_set.proofs.MembersOf.{count, counted, one_counted}
-use Rattle.s39_set.proofs.Just.{complete_where}
+use Rattle.s39_set.proofs.ExactNames.{complete_where}
 use Rattle.s39_set.proofs.SetQuorums.{member_threshold-positive}
 
 -- some of these names are of the group

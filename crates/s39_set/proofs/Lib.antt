@@ -23,7 +23,7 @@ pub mod RangesFrom
 pub mod Inserted
 pub mod Pushed
 pub mod Fronts
-pub mod Just
+pub mod ExactNames
 pub mod Completion
 pub mod FromMasks
 pub mod Greedy
@@ -31,7 +31,7 @@ pub mod Step
 pub mod StepOf
 pub mod OneLack
 pub mod Enough
-pub mod Joins
+pub mod SharesThatJoin
 pub mod OneMore
 pub mod Inserting
 pub mod SameShares

@@ -9,7 +9,7 @@ use Rattle.s39_set.specs.Names.{IsAscending}
 use Rattle.s39_set.specs.Quorums.{member_threshold_of}
 use Rattle.s39_set.specs.ShareSet.{Agrees, IsShareSet, CanJoin, HasOneMore, is_in_group, name_of}
 use Rattle.s39_lists.proofs.Sublists.{each, Contains-head, Contains-cons, Contains-cases}
-use Rattle.s39_set.proofs.Joins.{agrees-itself, agrees-back}
+use Rattle.s39_set.proofs.SharesThatJoin.{agrees-itself, agrees-back}
 
 -- an element put between two lists is one more
 between_cases : {X : Type 0} (before after : List X) (x y : X) → Contains (before ++ x ∷ after) y → Contains (before ++ after) y ⊎ (x ≡ y)

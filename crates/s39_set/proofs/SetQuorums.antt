@@ -21,7 +21,7 @@ use Rattle.s39_lists.proofs.Pairs.{AllPairs-nil}
 use Rattle.s39_set.proofs.Ascending.{Precedes, names-sublist, same_names_from_length}
 use Rattle.s39_set.proofs.Thresholds.{HasJust}
 use Rattle.s39_set.proofs.CompleteGroups.{complete_groups-sublist}
-use Rattle.s39_set.proofs.Just.{all_needed, one_complete}
+use Rattle.s39_set.proofs.ExactNames.{all_needed, one_complete}
 use Rattle.s39_set.proofs.Completion.{names_taken, groups_there, taken_just, taken_least}
 
 -- what just meets the set's thresholds just meets them as plain numbers

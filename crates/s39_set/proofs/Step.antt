@@ -18,7 +18,7 @@ use Rattle.s39_set.proofs.Ascending.{Precedes, name_cmp_groups, name_cmp_one_way
 use Rattle.s39_set.proofs.CompleteGroups.{complete_weaker}
 use Rattle.s39_lists.proofs.Ranges.{filter-range_agree, Contains-range_from}
 use Rattle.s39_set.proofs.MembersOf.{count, of_group, in_group, group-ascending, one_counted, counted, none_counted, count-append}
-use Rattle.s39_set.proofs.Just.{complete_is, complete_at, complete_at_hand, one_complete, same_members, same_complete}
+use Rattle.s39_set.proofs.ExactNames.{complete_is, complete_at, complete_at_hand, one_complete, same_members, same_complete}
 use Rattle.s39_set.proofs.Completion.{names_taken, groups_there, names_taken-from, joined_just, taken_least}
 
 -- the names of a list that are of the group of a name and come after it

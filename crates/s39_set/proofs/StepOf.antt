@@ -24,7 +24,7 @@ use Rattle.s39_lists.proofs.Sublists.{Contains-head}
 use Rattle.s39_set.proofs.Ascending.{member-less}
 use Rattle.s39_set.proofs.NamesOrder.{cmp-append, first-less}
 use Rattle.s39_lists.proofs.Ranges.{filter-range_agree}
-use Rattle.s39_set.proofs.Just.{alone, complete_is}
+use Rattle.s39_set.proofs.ExactNames.{alone, complete_is}
 use Rattle.s39_set.proofs.FromMasks.{names_in_group_masks, above_from_masks, higher_member}
 use Rattle.s39_set.proofs.SetQuorums.{member_threshold-positive, groups-below, members-below, group_threshold-from_meets, just_of, of_just}
 use Rattle.s39_set.proofs.SetQuorums.{written_of_quorum, first_is}

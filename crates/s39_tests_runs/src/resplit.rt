@@ -1,7 +1,7 @@
 //! Tests of `run_resplit`, `resplit_lines` and `lines_from_encrypted`. A plain reading of the standard in Python computed the mnemonics.
 use s39_backup::Plan;
 use s39_creating::{lines_from_encrypted, resplit_lines, run_resplit};
-use s39_input::{Counting, Unwritten};
+use s39_input::{Counting, NoOutput};
 use s39_kdf::Params;
 use s39_reading::encrypted_in;
 use std::test::Fail;
@@ -68,7 +68,7 @@ fn new_mnemonics(rt: HostRuntime) -> Result<(), Fail> {
 
     let mut text = [7; 100];
     match resplit_lines(&plan, OLD, RANDOM, &mut text) {
-        Err(Unwritten::TooShort(short)) => {
+        Err(NoOutput::TooShort(short)) => {
             assert_eq!(rt; short.needed, NEW.len());
         }
         _ => assert!(rt; false),
@@ -105,7 +105,7 @@ fn refused_in_order(rt: HostRuntime) -> Result<(), Fail> {
         }
         let mut text = [7; 20];
         match resplit_lines(&plan, lines, random, &mut text) {
-            Err(Unwritten::Refused(fault)) => {
+            Err(NoOutput::Refused(fault)) => {
                 let cause = fault.refusal.cause();
                 assert_eq!(rt; (cause.code, cause.first, fault.line), (code, first, line));
             }
@@ -129,7 +129,7 @@ fn new_mnemonics_in_two_steps(rt: HostRuntime) -> Result<(), Fail> {
 
     let mut text = [7; 100];
     match lines_from_encrypted(&plan, params, bytes, RANDOM, &mut text) {
-        Err(Unwritten::TooShort(short)) => {
+        Err(NoOutput::TooShort(short)) => {
             assert_eq!(rt; short.needed, NEW.len());
         }
         _ => assert!(rt; false),
@@ -157,7 +157,7 @@ fn encrypted_refused_in_order(rt: HostRuntime) -> Result<(), Fail> {
         };
         let mut text = [7; 20];
         match lines_from_encrypted(&plan, params, encrypted, random, &mut text) {
-            Err(Unwritten::Refused(fault)) => {
+            Err(NoOutput::Refused(fault)) => {
                 let cause = fault.refusal.cause();
                 assert_eq!(rt; (cause.code, cause.first, fault.line), (code, first, None));
             }

@@ -7,7 +7,7 @@ use Rattle.s39_words.specs.declared.ShareFields.{ShareFields}
 use Rattle.s39_words.specs.Printing.{IsPrinted}
 use Rattle.s39_set.specs.Names.{Name, Names}
 use Rattle.s39_set.specs.ShareSet.{name_of, refusal_of, SharesThatAgreeJoin}
-use Rattle.s39_set.proofs.Joins.{same_from_joins}
+use Rattle.s39_set.proofs.SharesThatJoin.{same_from_joins}
 use Rattle.s39_backup.specs.declared.plan.Members.{Members}
 use Rattle.s39_backup.specs.declared.reissue_error.TooFew.{TooFew}
 use Rattle.s39_backup.specs.Created.{AreOfBackup}

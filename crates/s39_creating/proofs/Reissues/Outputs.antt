@@ -12,8 +12,8 @@ use Rattle.s39_input.specs.declared.fault.Stop.{Stop}
 use Rattle.s39_input.specs.declared.fault.Refusal.TheVariants.{OtherPlan}
 use Rattle.s39_input.specs.declared.fault.Fault.{Fault}
 use Rattle.s39_input.specs.Fault.{fault_of, fault_of_stop}
-use Rattle.s39_input.specs.declared.slices.Unwritten.{Unwritten}
-use Rattle.s39_input.specs.declared.slices.Unwritten.TheVariants.{Refused, TooShort}
+use Rattle.s39_input.specs.declared.slices.NoOutput.{NoOutput}
+use Rattle.s39_input.specs.declared.slices.NoOutput.TheVariants.{Refused, TooShort}
 use Rattle.s39_input.specs.declared.slices.WrittenLines.{WrittenLines}
 use Rattle.s39_input.specs.Slices.{Puts}
 use Rattle.s39_creating.specs.Reissue.{is_of_plan, first_other, fault_of_name, given_all, reissued}
@@ -22,7 +22,7 @@ use Rattle.s39_creating.proofs.Reissues.Named.{all_named, set_tested}
 -- what is known of each output is known of what is put into a slice
 pub puts_of : {Is Also : List ℕ → Result (Unit {0}) Fault → Type 0}
     → ((text : List ℕ) (answer : Result (Unit {0}) Fault) → Is text answer → Also text answer)
-    → (old new : List ℕ) (result : Result WrittenLines Unwritten) → Puts Is old new result → Puts Also old new result
+    → (old new : List ℕ) (result : Result WrittenLines NoOutput) → Puts Is old new result → Puts Also old new result
 puts_of also old new (Ok put) (text, is, front, bytes, lines) = (text, also text (Ok tt) is, front, bytes, lines)
 puts_of also old new (Err (TooShort short)) (text, is, needed, long, same) = (text, also text (Ok tt) is, needed, long, same)
 puts_of also old new (Err (Refused fault)) (is, same) = (also [] (Err fault) is, same)

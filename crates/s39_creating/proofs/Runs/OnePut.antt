@@ -1,8 +1,8 @@
 -- What is put into a slice of one output is one thing.
 use Rattle.std.proofs.Common.{◌≡◌, ℕ, ◌<◌, ◌≤◌, List, [], ◌++◌, length, drop, sym, ap, ap₂, ◌∙◌, arith, Result, Ok, Err}
 use Rattle.s39_input.specs.declared.fault.Fault.{Fault}
-use Rattle.s39_input.specs.declared.slices.Unwritten.{Unwritten}
-use Rattle.s39_input.specs.declared.slices.Unwritten.TheVariants.{Refused, TooShort as SliceTooShort}
+use Rattle.s39_input.specs.declared.slices.NoOutput.{NoOutput}
+use Rattle.s39_input.specs.declared.slices.NoOutput.TheVariants.{Refused, TooShort as SliceTooShort}
 use Rattle.s39_input.specs.declared.slices.WrittenLines.{WrittenLines}
 use Rattle.s39_input.specs.Input.{lines_in}
 use Rattle.s39_input.specs.Slices.{Puts}
@@ -22,7 +22,7 @@ module _ (IsOutput : List ℕ → Result (Unit {0}) Fault → Type 0)
       let differ = same.1 in
       absurd (cc)
 
-  pub puts_once : (old new other : List ℕ) (answer another : Result WrittenLines Unwritten) → Puts IsOutput old new answer → Puts IsOutput old other another
+  pub puts_once : (old new other : List ℕ) (answer another : Result WrittenLines NoOutput) → Puts IsOutput old new answer → Puts IsOutput old other another
       → (new ≡ other) × (answer ≡ another)
   puts_once old new other (Ok w) (Ok v) (text, writes, front, w_is, w_lines) (text', writes', front', v_is, v_lines) =
       let same = once text text' (Ok tt) (Ok tt) writes writes' in

@@ -19,7 +19,7 @@ use Rattle.s39_input.specs.Input.{Input}
 use Rattle.s39_input.specs.Steps.{gives, refuses, nothing_for}
 use Rattle.s39_input.specs.Accepted.{IsReadAs, IsCheckedSet, CheckedSetLaws}
 use Rattle.s39_input.specs.OfBackup.{HoldsMnemonicsOf}
-use Rattle.s39_drilling.specs.Drill.{Listed, quorum_line, last_line, mismatches_in, IsDrill, fault_of_undrilled, WritesDrillOf, IsDrillOutput}
+use Rattle.s39_drilling.specs.Drill.{Listed, quorum_line, last_line, mismatches_in, IsDrill, fault_of_no_drill, WritesDrillOf, IsDrillOutput}
 use Rattle.s39_drilling.specs.Drill.{unexpected_in, ListsSecret, ListsSecretOrCause, DrillsCreated}
 use Rattle.s39_input.specs.SecretForm.{is_unexpected}
 use Rattle.s39_drilling.proofs.Drills.Counts.{mismatches-more}
@@ -100,7 +100,7 @@ module _ (one_outcome : (set : List ShareFields) (names : Names) (passphrase : L
         of_writing text (lines ++ last_line more) answer (Ok (record { mismatches = m })) written (ListsSecretOrCause form set secret after limit)
         (no_lack, cursor, lists_secret after limit lines more m d)
     complete form after limit text answer (refuses cause refused written) =
-        of_writing text [] answer (Err (fault_of_undrilled cause)) written (ListsSecretOrCause form set secret after limit) (refl, (cause, refused, refl))
+        of_writing text [] answer (Err (fault_of_no_drill cause)) written (ListsSecretOrCause form set secret after limit) (refl, (cause, refused, refl))
 
   -- what `drill` gives of mnemonics of a created backup
   pub drills_created : CheckedSetLaws → ((passphrase secret : List ℕ) (input : Input) → HoldsMnemonicsOf passphrase secret input

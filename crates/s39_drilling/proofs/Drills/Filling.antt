@@ -12,8 +12,8 @@ use Rattle.s39_set.specs.Listing.{IsListing}
 use Rattle.s39_kdf.specs.declared.secret_form.SecretForm.{SecretForm}
 use Rattle.s39_drilling.specs.declared.listing.Listing.{Listing}
 use Rattle.s39_input.specs.declared.slices.TooShort.{TooShort}
-use Rattle.s39_input.specs.declared.slices.Unwritten.{Unwritten}
-use Rattle.s39_input.specs.declared.slices.Unwritten.TheVariants.{TooShort as SliceTooShort}
+use Rattle.s39_input.specs.declared.slices.NoOutput.{NoOutput}
+use Rattle.s39_input.specs.declared.slices.NoOutput.TheVariants.{TooShort as SliceTooShort}
 use Rattle.s39_input.specs.Steps.{gives}
 use Rattle.s39_input.specs.declared.fault.Fault.{Fault}
 use Rattle.s39_drilling.specs.declared.drill.Done.{Done}
@@ -220,7 +220,7 @@ module _ {form : SecretForm} {set : List ShareFields} {passphrase : List ℕ} (l
         }
 
 -- what is answered of a drill in a slice
-abbrev pub answered : Result Listing TooShort → Result Listing Unwritten
+abbrev pub answered : Result Listing TooShort → Result Listing NoOutput
 answered (Ok listing) = Ok listing
 answered (Err short) = Err (SliceTooShort short)
 

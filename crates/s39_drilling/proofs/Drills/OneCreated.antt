@@ -10,10 +10,10 @@ use Rattle.s39_input.specs.declared.fault.Fault.{Fault}
 use Rattle.s39_drilling.specs.declared.drill.Done.{Done}
 use Rattle.s39_input.specs.Input.{Input}
 use Rattle.s39_input.specs.OfBackup.{HoldsMnemonicsOf}
-use Rattle.s39_drilling.specs.Drill.{quorum_line, last_line, last_reached, GoesOn, fault_of_undrilled, unexpected_in}
+use Rattle.s39_drilling.specs.Drill.{quorum_line, last_line, last_reached, GoesOn, fault_of_no_drill, unexpected_in}
 use Rattle.s39_drilling.specs.Drill.{ListsSecret, ListsSecretOrCause, DrillsCreated}
 use Rattle.s39_drilling.proofs.Drills.OneDrill.{goes_on_once}
-use Rattle.s39_drilling.proofs.Drills.Outputs.{undrilled_once, drilled_or_not}
+use Rattle.s39_drilling.proofs.Drills.Outputs.{no_drill_once, drilled_or_not}
 use Rattle.s39_input.proofs.Sets.OneSet.{InputsAreReadOnce, same_set}
 
 module _ (one_set : InputsAreReadOnce) (one_lack : SetsHaveOneLack)
@@ -39,8 +39,8 @@ module _ (one_set : InputsAreReadOnce) (one_lack : SetsHaveOneLack)
   secret_or_cause_once set secret after limit text other (Err f) (Ok done) (empty, (cause, refused, is)) (none, cursor, (lists, m)) =
       absurd (drilled_or_not set after cause none cursor refused)
   secret_or_cause_once set secret after limit text other (Err f) (Err g) (empty, (cause, refused, is)) (empty', (cause', refused', is')) =
-      let same = undrilled_once one_lack set after cause cause' refused refused' in
-      (empty ∙ sym empty', ap Err (is ∙ ap fault_of_undrilled same ∙ sym is'))
+      let same = no_drill_once one_lack set after cause cause' refused refused' in
+      (empty ∙ sym empty', ap Err (is ∙ ap fault_of_no_drill same ∙ sym is'))
 
   pub drills_once : (passphrase secret : List ℕ) (after : Option Names) (limit : ℕ) (input : Input) (text other : List ℕ)
       (answer another : Result Done Fault) → HoldsMnemonicsOf passphrase secret input → DrillsCreated form passphrase after limit input text answer

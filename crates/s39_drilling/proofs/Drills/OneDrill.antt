@@ -48,10 +48,10 @@ module _ (one_listing : (set : List ShareFields) (given : Option Names) (limit :
       cc
 
   -- a set has one drill
-  pub one_drill : {form : SecretForm} (after : Option Names) (limit : ℕ) (text other : List ℕ) (more more' : Option Names) (m n : ℕ)
+  pub one_drill_of_a_set : {form : SecretForm} (after : Option Names) (limit : ℕ) (text other : List ℕ) (more more' : Option Names) (m n : ℕ)
       → IsDrill form set passphrase after limit text more m
       → IsDrill form set passphrase after limit other more' n → (text ≡ other) × (more ≡ more') × (m ≡ n)
-  one_drill {form} after limit text other more more' m n p q =
+  one_drill_of_a_set {form} after limit text other more more' m n p q =
       let listed = map (λ line. line.0) p.lines in
       let names = one_listing set after limit listed (map (λ line. line.0) q.lines) p.listing q.listing in
       let lines = same_lines p.lines q.lines names (listed_quorums set after limit listed p.listing) p.outcomes q.outcomes in (

@@ -7,17 +7,17 @@ use Rattle.s39_kdf.specs.declared.secret_form.SecretForm.{SecretForm}
 use Rattle.s39_drilling.specs.declared.drill.Done.{Done}
 use Rattle.s39_input.specs.declared.fault.Fault.{Fault}
 use Rattle.s39_drilling.specs.declared.listing.Listing.{Listing}
-use Rattle.s39_input.specs.declared.slices.Unwritten.{Unwritten}
-use Rattle.s39_input.specs.declared.slices.Unwritten.TheVariants.{Refused, TooShort as SliceTooShort}
+use Rattle.s39_input.specs.declared.slices.NoOutput.{NoOutput}
+use Rattle.s39_input.specs.declared.slices.NoOutput.TheVariants.{Refused, TooShort as SliceTooShort}
 use Rattle.s39_input.specs.Input.{Input, lines_in, bytes_before_last}
 use Rattle.s39_drilling.specs.Drill.{IsDrillOutput}
 use Rattle.s39_drilling.specs.Slices.{ListsWhatFits, Lists}
 use Rattle.s39_drilling.proofs.Drills.Outputs.{refused_with}
 
-abbrev put : Listing → Result Listing Unwritten
+abbrev put : Listing → Result Listing NoOutput
 put listing = Ok listing
 
-abbrev listing_of : ℕ × ℕ → ℕ × ℕ → Result Listing Unwritten
+abbrev listing_of : ℕ × ℕ → ℕ × ℕ → Result Listing NoOutput
 listing_of size quorums = Ok (record { written = size.0; last = size.1; listed = quorums.0; mismatches = quorums.1 })
 
 -- listings are known by their numbers
@@ -96,7 +96,7 @@ module _ {form : SecretForm} (one_drill_output : (passphrase : List ℕ) (after 
       (Ok (record { mismatches = another.mismatches })) l.output output in
       (same.0, ap mismatches_of same.1)
 
-  pub listing_once : (new other : List ℕ) (answer another : Result Listing Unwritten)
+  pub listing_once : (new other : List ℕ) (answer another : Result Listing NoOutput)
       → Lists (λ n. IsDrillOutput form passphrase after n input) limit old new answer
       → Lists (λ n. IsDrillOutput form passphrase after n input) limit old other another → (new ≡ other) × (answer ≡ another)
   listing_once new other (Ok listing) (Ok another) l k =

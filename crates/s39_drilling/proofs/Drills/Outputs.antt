@@ -12,39 +12,39 @@ use Rattle.s39_set.specs.SetFacts.{SetsHaveOneLack, SetsWithQuorumsHaveNone}
 use Rattle.s39_backup.specs.declared.combination.Mismatch.{Mismatch}
 use Rattle.s39_backup.specs.Outcome.{IsOutcome}
 use Rattle.s39_kdf.specs.declared.secret_form.SecretForm.{SecretForm}
-use Rattle.s39_drilling.specs.declared.drill.Undrilled.{Undrilled}
-use Rattle.s39_drilling.specs.declared.drill.Undrilled.TheVariants.{Lack, NotAQuorum}
+use Rattle.s39_drilling.specs.declared.drill.NoDrill.{NoDrill}
+use Rattle.s39_drilling.specs.declared.drill.NoDrill.TheVariants.{Lack, NotAQuorum}
 use Rattle.s39_drilling.specs.declared.drill.Done.{Done}
 use Rattle.s39_input.specs.declared.fault.Fault.{Fault}
 use Rattle.s39_input.specs.Input.{Input}
 use Rattle.s39_input.specs.Fault.{read_failures_in, write_failures_in}
 use Rattle.s39_input.specs.Steps.{gives, refuses}
-use Rattle.s39_drilling.specs.Drill.{DrillLaws, last_line, IsUndrilled, fault_of_undrilled, IsDrillable, WritesLines, WritesDrillOf, IsDrillOutput}
+use Rattle.s39_drilling.specs.Drill.{DrillLaws, last_line, IsNoDrill, fault_of_no_drill, IsDrillable, WritesLines, WritesDrillOf, IsDrillOutput}
 use Rattle.s39_input.proofs.Steps.{AtMostOne, AtLeastOne, then_once, then_some}
 use Rattle.s39_input.proofs.Sets.Checked.{same_writing}
 use Rattle.s39_lists.proofs.Decided.{same_or_other, among_or_not}
 use Rattle.s39_drilling.proofs.Drills.Drilling.{some_drill_of}
-use Rattle.s39_drilling.proofs.Drills.OneDrill.{one_drill}
+use Rattle.s39_drilling.proofs.Drills.OneDrill.{one_drill_of_a_set}
 
 -- which failures a fault says
-pub undrilled_reads : (cause : Undrilled) → read_failures_in (fault_of_undrilled cause).refusal ≡ 0
-undrilled_reads (Lack lack) = refl
-undrilled_reads NotAQuorum = refl
+pub no_drill_reads : (cause : NoDrill) → read_failures_in (fault_of_no_drill cause).refusal ≡ 0
+no_drill_reads (Lack lack) = refl
+no_drill_reads NotAQuorum = refl
 
-pub undrilled_writes : (cause : Undrilled) → write_failures_in (fault_of_undrilled cause).refusal ≡ 0
-undrilled_writes (Lack lack) = refl
-undrilled_writes NotAQuorum = refl
+pub no_drill_writes : (cause : NoDrill) → write_failures_in (fault_of_no_drill cause).refusal ≡ 0
+no_drill_writes (Lack lack) = refl
+no_drill_writes NotAQuorum = refl
 
 -- ---- at most one
 
-pub undrilled_once : SetsHaveOneLack → (set : List ShareFields) (after : Option Names) → AtMostOne (IsUndrilled set after)
-undrilled_once one_lack set after (Lack lack) (Lack other) p q = ap Lack (one_lack set lack other p q)
-undrilled_once one_lack set after (Lack lack) NotAQuorum p q = absurd (q.0 lack p)
-undrilled_once one_lack set after NotAQuorum (Lack lack) p q = absurd (p.0 lack q)
-undrilled_once one_lack set after NotAQuorum NotAQuorum p q = refl
+pub no_drill_once : SetsHaveOneLack → (set : List ShareFields) (after : Option Names) → AtMostOne (IsNoDrill set after)
+no_drill_once one_lack set after (Lack lack) (Lack other) p q = ap Lack (one_lack set lack other p q)
+no_drill_once one_lack set after (Lack lack) NotAQuorum p q = absurd (q.0 lack p)
+no_drill_once one_lack set after NotAQuorum (Lack lack) p q = absurd (p.0 lack q)
+no_drill_once one_lack set after NotAQuorum NotAQuorum p q = refl
 
-pub drilled_or_not : (set : List ShareFields) (after : Option Names) (cause : Undrilled) → ((lack : SetLack) → ¬ IsLack set lack)
-    → IfSome after (IsQuorum set) → IsUndrilled set after cause → ⊥
+pub drilled_or_not : (set : List ShareFields) (after : Option Names) (cause : NoDrill) → ((lack : SetLack) → ¬ IsLack set lack)
+    → IfSome after (IsQuorum set) → IsNoDrill set after cause → ⊥
 drilled_or_not set after (Lack lack) no_lack cursor refused = no_lack lack refused
 drilled_or_not set after NotAQuorum no_lack cursor (none, (names, is, other)) = other (subst (λ a. IfSome a (IsQuorum set)) is cursor)
 
@@ -52,7 +52,7 @@ drillable_once : SetsHaveOneLack → (set : List ShareFields) (after : Option Na
 drillable_once one_lack set after (Ok _) (Ok _) p q = refl
 drillable_once one_lack set after (Ok _) (Err cause) p q = absurd (drilled_or_not set after cause p.0 p.1 q)
 drillable_once one_lack set after (Err cause) (Ok _) p q = absurd (drilled_or_not set after cause q.0 q.1 p)
-drillable_once one_lack set after (Err cause) (Err other) p q = ap Err (undrilled_once one_lack set after cause other p q)
+drillable_once one_lack set after (Err cause) (Err other) p q = ap Err (no_drill_once one_lack set after cause other p q)
 
 module _ (one_lack : SetsHaveOneLack)
     (one_listing : (set : List ShareFields) (given : Option Names) (limit : ℕ) (listed others : List Names) → IsListing set given limit listed
@@ -63,7 +63,7 @@ module _ (one_lack : SetsHaveOneLack)
     (form : SecretForm) (passphrase : List ℕ) (after : Option Names) (limit : ℕ) (set : List ShareFields) (is : IsShareSet set) where
   lines_once : AtMostOne (WritesLines form set passphrase after limit)
   lines_once written other (lines, more, m, d, is_written) (lines', more', n, e, is_other) =
-      let (texts, goes_on, mismatches) = one_drill one_listing one_outcome set passphrase is after limit lines lines' more more' m n d e in
+      let (texts, goes_on, mismatches) = one_drill_of_a_set one_listing one_outcome set passphrase is after limit lines lines' more more' m n d e in
       rw (is_written, is_other, texts, goes_on, mismatches) refl
 
   pub drill_of_set_once : AtMostOne (WritesDrillOf form passphrase after limit set)

@@ -16,9 +16,9 @@ use Rattle.s39_input.specs.Steps.{gives, refuses}
 use Rattle.s39_input.proofs.Runs.Devices.{OfInput-map}
 use Rattle.s39_input.proofs.Runs.Writing.{nothing_written, run_part, run_whole}
 use Rattle.s39_drilling.specs.declared.drill.Done.{Done}
-use Rattle.s39_drilling.specs.declared.drill.Undrilled.{Undrilled}
-use Rattle.s39_drilling.specs.Drill.{IsDrill, IsDrillOutput, IsUndrilled, StartsAt, WritesDrill, fault_of_undrilled, last_line}
-use Rattle.s39_drilling.proofs.Drills.Outputs.{undrilled_reads, undrilled_writes}
+use Rattle.s39_drilling.specs.declared.drill.NoDrill.{NoDrill}
+use Rattle.s39_drilling.specs.Drill.{IsDrill, IsDrillOutput, IsNoDrill, StartsAt, WritesDrill, fault_of_no_drill, last_line}
+use Rattle.s39_drilling.proofs.Drills.Outputs.{no_drill_reads, no_drill_writes}
 
 module _ {R W : Type 0} (remaining : R → Option (List ℕ)) (contents : W → Option (List ℕ)) (form : SecretForm) (passphrase : List ℕ)
     (after : Option Names) (limit : ℕ) (reader read_to : Counted R) where
@@ -32,11 +32,11 @@ module _ {R W : Type 0} (remaining : R → Option (List ℕ)) (contents : W → 
   module _ (set : List ShareFields) (checked : OfInput remaining reader read_to (λ input. IsCheckedSet passphrase input (Ok set)))
       (reads : read_to.failures ≡ reader.failures) where
     -- its set isn't drilled
-    pub undrilled_run : (writer : Counted W) (cause : Undrilled) → IsUndrilled set after cause
-        → Runs remaining contents (IsDrillOutput form passphrase after limit) reader read_to writer writer (Err (fault_of_undrilled cause))
-    undrilled_run writer cause refused =
+    pub no_drill_run : (writer : Counted W) (cause : NoDrill) → IsNoDrill set after cause
+        → Runs remaining contents (IsDrillOutput form passphrase after limit) reader read_to writer writer (Err (fault_of_no_drill cause))
+    no_drill_run writer cause refused =
         run_whole (nothing_written contents writer) (OfInput-map checked (λ input checked. gives set checked (refuses cause refused refl)))
-        (let none = undrilled_reads cause in omega (arith, reads, none)) (undrilled_writes cause)
+        (let none = no_drill_reads cause in omega (arith, reads, none)) (no_drill_writes cause)
 
     -- a drill of the set is the output of the input
     output : (start : Option Names) → StartsAt set after start → (lines : List ℕ) (more : Option Names) (mismatches : ℕ)

@@ -1,15 +1,15 @@
 -- What lists a drill's outputs in a slice also lists what follows from them.
 use Rattle.std.proofs.Common.{ℕ, ◌+◌, List, [], Result, Ok, Err}
 use Rattle.s39_input.specs.declared.fault.Fault.{Fault}
-use Rattle.s39_input.specs.declared.slices.Unwritten.{Unwritten}
-use Rattle.s39_input.specs.declared.slices.Unwritten.TheVariants.{Refused, TooShort as SliceTooShort}
+use Rattle.s39_input.specs.declared.slices.NoOutput.{NoOutput}
+use Rattle.s39_input.specs.declared.slices.NoOutput.TheVariants.{Refused, TooShort as SliceTooShort}
 use Rattle.s39_drilling.specs.declared.drill.Done.{Done}
 use Rattle.s39_drilling.specs.declared.listing.Listing.{Listing}
 use Rattle.s39_drilling.specs.Slices.{Lists}
 
 module _ {IsOutput Follows : ℕ → List ℕ → Result Done Fault → Type 0}
     (follows : (n : ℕ) (text : List ℕ) (answer : Result Done Fault) → IsOutput n text answer → Follows n text answer) (limit : ℕ) (old new : List ℕ) where
-  pub lists_weaker : (result : Result Listing Unwritten) → Lists IsOutput limit old new result → Lists Follows limit old new result
+  pub lists_weaker : (result : Result Listing NoOutput) → Lists IsOutput limit old new result → Lists Follows limit old new result
   lists_weaker (Ok listing) fits = record {
     listed = fits.listed;
     text = fits.text;

@@ -7,7 +7,7 @@ use Rattle.s39_set.specs.Quorums.{MeetsThresholds}
 use Rattle.s39_set.proofs.SetQuorums.{no_lack-from_meets}
 use Rattle.s39_kdf.specs.declared.secret_form.SecretForm.{SecretForm}
 use Rattle.s39_drilling.specs.declared.drill.Done.{Done}
-use Rattle.s39_drilling.specs.declared.drill.Undrilled.TheVariants.{Lack, NotAQuorum}
+use Rattle.s39_drilling.specs.declared.drill.NoDrill.TheVariants.{Lack, NotAQuorum}
 use Rattle.s39_input.specs.declared.fault.Fault.{Fault}
 use Rattle.s39_drilling.specs.Drill.{unexpected_in, ListsSecret, ListsSecretOrCause}
 

@@ -2,8 +2,8 @@
 use Rattle.std.proofs.Common.{◌≡◌, ℕ, suc, ◌+◌, Bool, true, false, List, [], ◌∷◌, ◌++◌, map, inl, inr, refl, sym, ap, ◌∙◌, subst, subst₂, append_assoc, append-nil, arith}
 use Rattle.std.proofs.Common.{Option, Result, Ok, Err}
 use Rattle.std.specs.List.{flat_map}
-use Rattle.s39_input.specs.declared.each_line.Unanswered.{Unanswered}
-use Rattle.s39_input.specs.declared.each_line.Unanswered.TheVariants.{Line, WriteFailed}
+use Rattle.s39_input.specs.declared.each_line.NoAnswer.{NoAnswer}
+use Rattle.s39_input.specs.declared.each_line.NoAnswer.TheVariants.{Line, WriteFailed}
 use Rattle.s39_input.specs.declared.fault.LineRefusal.{LineRefusal}
 use Rattle.s39_input.specs.declared.fault.Stop.{Stop}
 use Rattle.s39_input.specs.declared.fault.Stop.TheVariants.{AtLine, ReadFailed}
@@ -19,18 +19,18 @@ use Rattle.s39_input.proofs.Runs.Devices.{OfInput-map, some_input}
 use Rattle.s39_input.proofs.Runs.Writing.{nothing_written, longer_part, writes_whole, writes_more, writes_part}
 
 -- a failed read is answered as such
-answers_read_failures : {T : Type 0} (done : T) (answer : Result (Unit {0}) (Stop Unanswered)) → read_failures (answered done answer) ≡ stop_failures answer
+answers_read_failures : {T : Type 0} (done : T) (answer : Result (Unit {0}) (Stop NoAnswer)) → read_failures (answered done answer) ≡ stop_failures answer
 answers_read_failures done (Ok _) = refl
 answers_read_failures done (Err ReadFailed) = refl
 answers_read_failures {T} done (Err (AtLine refused)) = by refused.number refused.refusal where
-  by : (number : ℕ) (refusal : Unanswered) → read_failures (answered done (Err (AtLine (record { number = number; refusal = refusal })))) ≡ 0
+  by : (number : ℕ) (refusal : NoAnswer) → read_failures (answered done (Err (AtLine (record { number = number; refusal = refusal })))) ≡ 0
   by number (Line refusal) = refl
   by number WriteFailed = refl
 
 module _ {W S H : Type 0} (contents : W → Option (List ℕ)) (Says : List ℕ → Result H LineRefusal → Type 0) (text_of : H → List ℕ) (output : S → Counted W)
     (Follows : S → List H → S → Type 0) (stays : (s : S) → Follows s [] s)
     (joins : (s t u : S) (said more : List H) → Follows s said t → Follows t more u → Follows s (said ++ more) u) where
-  abbrev Takes : S → List ℕ → Result (Unit {0}) Unanswered → S → Type 0
+  abbrev Takes : S → List ℕ → Result (Unit {0}) NoAnswer → S → Type 0
   Takes = AnswersLine contents Says text_of output Follows
 
   -- Each line says one thing. The run begins in this state, and the answer to what lines say is known of a state that follows.
@@ -46,13 +46,13 @@ module _ {W S H : Type 0} (contents : W → Option (List ℕ)) (Says : List ℕ 
 
     -- what the rest of a run writes, how many writes fail, and what its last state follows
     record Outcome (said : List H) (all : List H × Result (Unit {0}) (Stop LineRefusal)) (old new : S)
-        (answer : Result (Unit {0}) (Stop Unanswered)) : Type 0 where
+        (answer : Result (Unit {0}) (Stop NoAnswer)) : Type 0 where
       writes : Writes contents (IsOutput said all) (output old) (output new) (answered (done new) answer)
       failures : (output new).failures ≡ (output old).failures + write_failures (answered (done new) answer)
       follows : (more : List H) × Follows first more new
 
     -- nothing more is written
-    stays_so : (said : List H) (s : S) (stop : Result (Unit {0}) (Stop LineRefusal)) (answer : Result (Unit {0}) (Stop Unanswered)) → Follows first said s
+    stays_so : (said : List H) (s : S) (stop : Result (Unit {0}) (Stop LineRefusal)) (answer : Result (Unit {0}) (Stop NoAnswer)) → Follows first said s
         → answer_of (answer_to (said ++ [])) stop ≡ answered (done s) answer → write_failures (answered (done s) answer) ≡ 0
         → Outcome said ([], stop) s s answer
     stays_so said s stop answer follows is none = record {
@@ -65,10 +65,10 @@ module _ {W S H : Type 0} (contents : W → Option (List ℕ)) (Says : List ℕ 
     done_so : (said : List H) (s : S) → Follows first said s → answer_to (said ++ []) ≡ done s
     done_so said s follows = ap answer_to (append-nil said) ∙ sym (is_answer said s follows)
 
-    runs : (ended : Bool) (n : ℕ) (lines : List (List ℕ)) (said : List H) (old new : S) (answer : Result (Unit {0}) (Stop Unanswered))
+    runs : (ended : Bool) (n : ℕ) (lines : List (List ℕ)) (said : List H) (old new : S) (answer : Result (Unit {0}) (Stop NoAnswer))
         → Follows first said old → RunsOn Takes ended n lines old new answer → Outcome said (said_until ended n (map say lines)) old new answer
     runs ended n [] said old new answer follows (same, is) =
-        subst₂ (λ (s : S) (a : Result (Unit {0}) (Stop Unanswered)). Outcome said ([], at_end ended tt) old s a) same is (by ended)
+        subst₂ (λ (s : S) (a : Result (Unit {0}) (Stop NoAnswer)). Outcome said ([], at_end ended tt) old s a) same is (by ended)
       where
         by : (ended : Bool) → Outcome said ([], at_end ended tt) old old (at_end ended tt)
         by true = stays_so said old (Ok tt) (Ok tt) follows (ap Ok (done_so said old follows)) refl
@@ -91,12 +91,12 @@ module _ {W S H : Type 0} (contents : W → Option (List ℕ)) (Says : List ℕ 
         }
     runs ended n (line ∷ lines) said old new answer follows (inr (Line refusal, (says, same), is)) =
         subst (λ (r : Result H LineRefusal). Outcome said (said_until ended n (r ∷ map say lines)) old new answer) (sym (is_said line (Err refusal) says))
-        (subst₂ (λ (s : S) (a : Result (Unit {0}) (Stop Unanswered)). Outcome said ([], at_line n (Err refusal)) old s a) same is
+        (subst₂ (λ (s : S) (a : Result (Unit {0}) (Stop NoAnswer)). Outcome said ([], at_line n (Err refusal)) old s a) same is
         (stays_so said old (at_line n (Err refusal)) (at_line n (Err (Line refusal))) follows refl refl))
     runs ended n (line ∷ lines) said old new answer follows (inr (WriteFailed, (one, says, part, further), is)) =
         let rest = said_until ended (suc n) (map say lines) in
         subst (λ (r : Result H LineRefusal). Outcome said (said_until ended n (r ∷ map say lines)) old new answer) (sym (is_said line (Ok one) says))
-        (subst (λ (a : Result (Unit {0}) (Stop Unanswered)). Outcome said (one ∷ rest.0, rest.1) old new a) is (record {
+        (subst (λ (a : Result (Unit {0}) (Stop NoAnswer)). Outcome said (one ∷ rest.0, rest.1) old new a) is (record {
           writes = writes_part contents (IsOutput said (one ∷ rest.0, rest.1)) (output old) (output new) (text_of one ++ flat_map text_of rest.0)
               (answer_of (answer_to (said ++ one ∷ rest.0)) rest.1)
               (longer_part contents (output old) (output new) (text_of one) (flat_map text_of rest.0) part)
@@ -106,7 +106,7 @@ module _ {W S H : Type 0} (contents : W → Option (List ℕ)) (Says : List ℕ 
         }))
 
     -- a run over the lines of an input writes the output, or a beginning of it
-    pub run_answered : {R : Type 0} {remaining : R → Option (List ℕ)} {reader read_to : Counted R} (new : S) (stop : Result (Unit {0}) (Stop Unanswered))
+    pub run_answered : {R : Type 0} {remaining : R → Option (List ℕ)} {reader read_to : Counted R} (new : S) (stop : Result (Unit {0}) (Stop NoAnswer))
         → OfInput remaining reader read_to (λ input. RunsOver Takes input first new stop) → read_to.failures ≡ reader.failures + stop_failures stop
         → Runs remaining contents (λ input text answer. output_of_each text_of answer_to say input ≡ (text, answer)) reader read_to
         (output first) (output new) (answered (done new) stop)
@@ -118,7 +118,7 @@ module _ {W S H : Type 0} (contents : W → Option (List ℕ)) (Says : List ℕ 
     }
 
     -- its last state follows the first
-    pub run_follows : {R : Type 0} {remaining : R → Option (List ℕ)} {reader read_to : Counted R} (new : S) (stop : Result (Unit {0}) (Stop Unanswered))
+    pub run_follows : {R : Type 0} {remaining : R → Option (List ℕ)} {reader read_to : Counted R} (new : S) (stop : Result (Unit {0}) (Stop NoAnswer))
         → OfInput remaining reader read_to (λ input. RunsOver Takes input first new stop) → (said : List H) × Follows first said new
     run_follows {R} {remaining} {reader} {read_to} new stop over_input = let (input, over) = some_input remaining reader read_to _ over_input in
         (runs input.ended 0 (lines_of input) [] first new stop (stays first) over).follows

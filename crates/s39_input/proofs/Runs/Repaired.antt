@@ -28,7 +28,7 @@ use Rattle.s39_input.specs.Repair.{shares_of, RepairsTo, fits_one, mnemonics_tex
 use Rattle.s39_input.proofs.Runs.PrintedLines.{printed_all, lines_once}
 use Rattle.s39_input.proofs.Runs.EachOutput.{all-said, said-same}
 use Rattle.s39_input.proofs.Sets.Checked.{same_writing}
-use Rattle.s39_input.proofs.Taking.Held.{said_skipped, said_held}
+use Rattle.s39_input.proofs.Taking.SaidByLines.{said_skipped, said_held}
 
 -- what is known of the mnemonics that fit besides the first
 abbrev Others : List ℕ → List ℕ → Option ShareFields → Type 0

@@ -22,8 +22,8 @@ use Rattle.s39_input.specs.Accepted.{IsSetOf, IsReadAs, read_as, shares_in, held
 use Rattle.s39_input.specs.Collecting.{CollectsLine, ended_in}
 use Rattle.s39_input.specs.Midway.{RunsOver}
 use Rattle.s39_input.proofs.Sets.WithShare.{Grows, grows}
-use Rattle.s39_input.proofs.Taking.Held.{held_is_read}
-use Rattle.s39_input.proofs.Taking.Led.{runs_led}
+use Rattle.s39_input.proofs.Taking.SaidByLines.{held_is_read}
+use Rattle.s39_input.proofs.Taking.RunsOfLines.{runs_led}
 
 -- ---- one line
 

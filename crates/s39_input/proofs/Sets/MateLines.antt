@@ -13,7 +13,7 @@ use Rattle.s39_input.specs.Accepted.{IsReadAs, read_as, joined, with_held, with_
 use Rattle.s39_input.specs.Judging.{mate_in, with_mate, mates, judgement}
 use Rattle.s39_input.proofs.Sets.Judgements.{is_judged}
 use Rattle.s39_input.proofs.Sets.Mates.{own_mate}
-use Rattle.s39_input.proofs.Taking.Parts.{first_part}
+use Rattle.s39_input.proofs.Taking.PartsBetweenLineFeeds.{first_part}
 
 -- ---- lines of one backup
 

@@ -16,7 +16,7 @@ use Rattle.s39_backup.specs.Created.{Asked}
 use Rattle.s39_input.specs.Create.{ArePrintedLines, IsCreateOutput}
 use Rattle.s39_input.specs.OfBackup.{HoldsNothingOrOneOf, HoldsMnemonicsOf}
 use Rattle.s39_input.proofs.Runs.PrintedLines.{without_line_feeds}
-use Rattle.s39_input.proofs.Taking.Held.{holds_read}
+use Rattle.s39_input.proofs.Taking.SaidByLines.{holds_read}
 use Rattle.s39_input.proofs.Texts.LineFeeds.{parts_of_lines}
 
 letter_not_skipped : (letter : ℕ) (rest : List ℕ) → IsLetter letter → is_skipped (letter ∷ rest) ≡ false

@@ -12,7 +12,7 @@ use Rattle.s39_input.specs.Device.{Counted}
 use Rattle.s39_input.specs.Input.{longest_line, parts_of, finished_parts}
 use Rattle.s39_input.specs.Fault.{line_number}
 use Rattle.s39_input.specs.Midway.{TakesLines, RunsOn, RunsOver, IsMidway, StopsWithin, ReachesOrStops}
-use Rattle.s39_input.proofs.Taking.Parts.{parts_of-more, parts_of-part, parts_of-onto, first_part, finished_parts-keeps, finished_parts-drops}
+use Rattle.s39_input.proofs.Taking.PartsBetweenLineFeeds.{parts_of-more, parts_of-part, parts_of-onto, first_part, finished_parts-keeps, finished_parts-drops}
 
 module _ {S C : Type 0} (takes : S → List ℕ → Result (Unit {0}) C → S → Type 0) where
   -- one more line is taken

@@ -18,13 +18,13 @@ use Rattle.s39_input.proofs.Sets.OneSet.{InputsAreReadOnce, same_set}
 module _ (one_set : InputsAreReadOnce) (one_lack : SetsHaveOneLack) (no_lack : SetsWithQuorumsHaveNone) (form : SecretForm)
     (expected : Option NotedFingerprint) where
   -- a fault is one
-  unwritten_once : (set : List ShareFields) (secret : List ℕ) (fault other : Fault) → IsUnwritten expected set secret fault
+  no_output_once : (set : List ShareFields) (secret : List ℕ) (fault other : Fault) → IsUnwritten expected set secret fault
       → IsUnwritten expected set secret other → fault ≡ other
-  unwritten_once set secret fault other (inl (lack, lacks, is)) (inl (lack', lacks', is')) =
+  no_output_once set secret fault other (inl (lack, lacks, is)) (inl (lack', lacks', is')) =
       is ∙ ap (λ (l : SetLack). fault_of (Lack l)) (one_lack set lack lack' lacks lacks') ∙ sym is'
-  unwritten_once set secret fault other (inl (lack, lacks, is)) (inr ((names, quorum), told, is')) = absurd (no_lack set names lack quorum lacks)
-  unwritten_once set secret fault other (inr ((names, quorum), told, is)) (inl (lack, lacks, is')) = absurd (no_lack set names lack quorum lacks)
-  unwritten_once set secret fault other (inr (some, told, is)) (inr (also, told', is')) = is ∙ sym is'
+  no_output_once set secret fault other (inl (lack, lacks, is)) (inr ((names, quorum), told, is')) = absurd (no_lack set names lack quorum lacks)
+  no_output_once set secret fault other (inr ((names, quorum), told, is)) (inl (lack, lacks, is')) = absurd (no_lack set names lack quorum lacks)
+  no_output_once set secret fault other (inr (some, told, is)) (inr (also, told', is')) = is ∙ sym is'
 
   -- and there is none where the secret is written
   written_or_not : (set : List ShareFields) (secret : List ℕ) (fault : Fault) → (names : Names) × IsQuorum set names
@@ -39,7 +39,7 @@ module _ (one_set : InputsAreReadOnce) (one_lack : SetsHaveOneLack) (no_lack : S
   secret_or_cause_once set secret text other (Ok _) (Err g) (some, told, is) (none, cause) = absurd (written_or_not set secret g some told cause)
   secret_or_cause_once set secret text other (Err f) (Ok _) (none, cause) (some, told, is) = absurd (written_or_not set secret f some told cause)
   secret_or_cause_once set secret text other (Err f) (Err g) (none, cause) (none', cause') =
-      (none ∙ sym none', ap Err (unwritten_once set secret f g cause cause'))
+      (none ∙ sym none', ap Err (no_output_once set secret f g cause cause'))
 
   pub recovers_once : (passphrase secret : List ℕ) (input : Input) (text other : List ℕ) (answer another : Result (Unit {0}) Fault)
       → HoldsMnemonicsOf passphrase secret input → RecoversCreated form expected passphrase input text answer

@@ -7,8 +7,8 @@ use Rattle.s39_input.specs.Runs.{Runs}
 use Rattle.s39_input.proofs.Sets.Checked.{printable_of_checked}
 use Rattle.s39_input.proofs.Runs.Devices.{some_input}
 use Rattle.s39_drilling.specs.declared.drill.Done.{Done}
-use Rattle.s39_drilling.specs.Drill.{IsDrillOutput, fault_of_undrilled}
-use Rattle.s39_drilling.proofs.Drills.Running.{drilled_run, failed_run, setless_run, start_is_quorum, undrilled_run}
+use Rattle.s39_drilling.specs.Drill.{IsDrillOutput, fault_of_no_drill}
+use Rattle.s39_drilling.proofs.Drills.Running.{drilled_run, failed_run, setless_run, start_is_quorum, no_drill_run}
 use Rattle.s39_cli.specs.Said.{line_if, read_lines}
 use Rattle.s39_cli.specs.Seen.{SeesDrill, SeesOnceRead}
 use Rattle.s39_cli.proofs.SaidByRuns.{said_of_set, unsaid_failure, unsaid_refusal}
@@ -38,9 +38,9 @@ returns-in_err-start-clause-runs g c =
     let drill = c.args.drill.now in
     rw (p.1, p.2) (subst (λ (after : Option Names). Runs g.R.Read.remaining g.W.Write.contents
     (IsDrillOutput drill.form drill.passphrase.now after drill.limit) c.args.input.now c.checked_set.new.input c.args.output.now c.args.output.now
-    (Err (fault_of_undrilled c.in_err-start.field-0.0)))
+    (Err (fault_of_no_drill c.in_err-start.field-0.0)))
     c.as_ref.ensures.value
-    (undrilled_run g.R.Read.remaining g.W.Write.contents drill.form drill.passphrase.now (option_copied c.as_ref.result) drill.limit
+    (no_drill_run g.R.Read.remaining g.W.Write.contents drill.form drill.passphrase.now (option_copied c.as_ref.result) drill.limit
     c.args.input.now c.checked_set.new.input c.in_ok-set.set c.in_ok-set.ensures.checked (omega (arith, c.in_ok-set.ensures.read_failures))
     c.args.output.now c.in_err-start.field-0.0 c.in_err-start.ensures.refused))
 
@@ -79,7 +79,7 @@ pub returns-in_err-start-clause-said : goal.returns-in_err-start-clause-said
 returns-in_err-start-clause-said g c =
     let p = err_from_is_err_and c.from_residual-in_err-start.result c.from_residual-in_err-start.ensures.1 in
     rw (p.1, p.2) (unsaid_refusal g.R.Read.remaining g.E.Write.contents c.args.input.now.device Done
-    (λ input. line_if c.args.is_attended (read_lines (read_as input))) (fault_of_undrilled c.in_err-start.field-0.0) c.args.errors.now)
+    (λ input. line_if c.args.is_attended (read_lines (read_as input))) (fault_of_no_drill c.in_err-start.field-0.0) c.args.errors.now)
 
 pub returns-in_err-list_from-clause-said : goal.returns-in_err-list_from-clause-said
 returns-in_err-list_from-clause-said g c =

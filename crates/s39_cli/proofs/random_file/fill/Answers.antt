@@ -1,7 +1,7 @@
 use Rattle.std.proofs.Common.{arith, subst}
 use Rattle.s39_cli.specs.Values.{TakesByte}
 use Rattle.s39_cli.specs.declared.values.Until.TheVariants.{End}
-use Rattle.s39_cli.proofs.Parts.{part_at_end, part_full}
+use Rattle.s39_cli.proofs.ReadParts.{part_at_end, part_full}
 use Rattle.s39_cli.proofs.random_file.fill.Goals as goal
 
 pub returns-after-loop : goal.returns-after-loop

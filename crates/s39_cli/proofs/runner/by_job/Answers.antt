@@ -1,6 +1,6 @@
 use Rattle.std.proofs.Common.{[], subst, sym}
 use Rattle.s39_command.specs.declared.command.Job.{Job}
-use Rattle.s39_cli.specs.declared.work.Unready.TheVariants.{Plan}
+use Rattle.s39_cli.specs.declared.work.NoWork.TheVariants.{Plan}
 use Rattle.s39_cli.specs.Outcome.{HasBadPlan}
 use Rattle.s39_cli.proofs.Ends.{bad_plan}
 use Rattle.s39_cli.proofs.Said.{said_of_plan}

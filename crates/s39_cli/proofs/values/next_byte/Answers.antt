@@ -1,5 +1,5 @@
 use Rattle.std.proofs.KnownBytes.{Keeps-refl, Keeps-trans}
-use Rattle.s39_cli.proofs.Parts.{no_byte, one_byte}
+use Rattle.s39_cli.proofs.ReadParts.{no_byte, one_byte}
 use Rattle.s39_cli.proofs.values.next_byte.Goals as goal
 
 pub loop-init : goal.loop-init

@@ -1,6 +1,6 @@
 use Rattle.std.proofs.Common.{arith, subst}
 use Rattle.s39_cli.specs.Values.{TakesByte}
-use Rattle.s39_cli.proofs.Parts.{part_at_end, part_full, part_of_line}
+use Rattle.s39_cli.proofs.ReadParts.{part_at_end, part_full, part_of_line}
 use Rattle.s39_cli.proofs.values.part.Goals.{else-loop-test, then-loop-test+in_ok-byte+in_default, then-loop-test+in_ok-byte+in-Some+in-LineEnd-eq10}
 use Rattle.s39_cli.proofs.values.part.Goals as goal
 

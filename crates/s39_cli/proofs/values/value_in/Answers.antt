@@ -1,5 +1,5 @@
 use Rattle.std.proofs.Common.{◌≤◌, ◌<◌, arith, length, subst}
-use Rattle.s39_cli.proofs.Parts.{long_of_part, value_of_part}
+use Rattle.s39_cli.proofs.ReadParts.{long_of_part, value_of_part}
 use Rattle.s39_cli.proofs.values.value_in.Goals as goal
 
 pub returns-then-len-gt-MOST-clause-long : goal.returns-then-len-gt-MOST-clause-long

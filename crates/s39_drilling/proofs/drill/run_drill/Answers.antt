@@ -4,7 +4,7 @@ use Rattle.std.proofs.lemmas.Result.{err_from_is_err_and}
 use Rattle.s39_input.proofs.Sets.Checked.{printable_of_checked}
 use Rattle.s39_input.proofs.Runs.Devices.{some_input}
 use Rattle.s39_input.proofs.Runs.Writing.{Runs-map}
-use Rattle.s39_drilling.proofs.Drills.Running.{drilled_run, failed_run, setless_run, start_is_quorum, undrilled_run}
+use Rattle.s39_drilling.proofs.Drills.Running.{drilled_run, failed_run, setless_run, start_is_quorum, no_drill_run}
 use Rattle.s39_drilling.proofs.drill.run_drill.Goals as goal
 
 pub list_from-requires-clause-printable : goal.list_from-requires-clause-printable
@@ -26,7 +26,7 @@ returns-in_err-set-clause-runs g c =
 pub returns-in_err-start-clause-runs : goal.returns-in_err-start-clause-runs
 returns-in_err-start-clause-runs g c =
     let p = err_from_is_err_and c.from_residual-in_err-start.result c.from_residual-in_err-start.ensures.1 in
-    rw (p.1, p.2) (undrilled_run g.R.Read.remaining g.W.Write.contents c.args.form c.args.passphrase.now (option_copied c.args.after) c.args.limit
+    rw (p.1, p.2) (no_drill_run g.R.Read.remaining g.W.Write.contents c.args.form c.args.passphrase.now (option_copied c.args.after) c.args.limit
     c.args.input.now c.checked_set.new.input c.in_ok-set.set c.in_ok-set.ensures.checked (omega (arith, c.in_ok-set.ensures.read_failures))
     c.args.output.now c.in_err-start.field-0.0 c.in_err-start.ensures.refused)
 

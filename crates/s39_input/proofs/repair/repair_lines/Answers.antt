@@ -3,7 +3,7 @@ use Rattle.std.specs.List.{list_all}
 use Rattle.std.proofs.Math.Bool.{and_assoc, and-true}
 use Rattle.std.proofs.lemmas.List.Folds.{list_all-append}
 use Rattle.s39_repair.specs.declared.repair_error.RepairError.{RepairError}
-use Rattle.s39_input.specs.declared.each_line.Unanswered.{Unanswered}
+use Rattle.s39_input.specs.declared.each_line.NoAnswer.{NoAnswer}
 use Rattle.s39_input.specs.declared.fault.LineRefusal.{LineRefusal}
 use Rattle.s39_input.specs.declared.fault.LineRefusal.TheVariants.{Marks}
 use Rattle.s39_input.specs.declared.fault.Stop.{Stop}
@@ -40,7 +40,7 @@ joins s t u said more p q = (
 module _ {R W : Type 0} (remaining : R → Option (List ℕ)) (contents : W → Option (List ℕ))
     (some : (line : List ℕ) → (r : Result (List (List ℕ)) RepairError) × RepairsTo line r)
     (once : (line : List ℕ) (r s : Result (List (List ℕ)) RepairError) → RepairsTo line r → RepairsTo line s → r ≡ s)
-    (old new : Repairing W) (start : old.one_each ≡ true) (stop : Result (Unit {0}) (Stop Unanswered)) {reader read_to : Counted R}
+    (old new : Repairing W) (start : old.one_each ≡ true) (stop : Result (Unit {0}) (Stop NoAnswer)) {reader read_to : Counted R}
     (runs : OfInput remaining reader read_to (λ input. RunsOver (AnswersLine contents (MarksSay RepairsTo) mnemonics_text (λ s. s.output.now) Follows)
     input old new stop)) where
   abbrev fitting : List ℕ → Result (List (List ℕ)) RepairError

@@ -1,4 +1,4 @@
-use Rattle.s39_set.proofs.Joins.{joins_from_none, none_from_joins}
+use Rattle.s39_set.proofs.SharesThatJoin.{joins_from_none, none_from_joins}
 use Rattle.s39_set.proofs.laws.shares_that_agree_join.Goals as goal
 
 pub returns : goal.returns

@@ -1,6 +1,6 @@
 use Rattle.std.proofs.Common.{refl}
 use Rattle.std.proofs.lemmas.Result.{err_from_is_err_and}
-use Rattle.s39_cli.proofs.Unreadiness.{bad_cursor, bad_fingerprint}
+use Rattle.s39_cli.proofs.WithoutWork.{bad_cursor, bad_fingerprint}
 use Rattle.s39_cli.proofs.work.Work.of.Goals as goal
 
 pub returns-in_err-after-in-Drill-clause-refused : goal.returns-in_err-after-in-Drill-clause-refused

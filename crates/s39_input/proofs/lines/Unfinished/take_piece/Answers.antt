@@ -4,7 +4,7 @@ use Rattle.std.proofs.lemmas.Bool.Decides.{nat_tests}
 use Rattle.std.proofs.lemmas.List.Elements.{All-from_get_or}
 use Rattle.std.proofs.lemmas.Result.{err_from_is_err_and}
 use Rattle.s39_input.specs.Midway.{IsMidway, StopsWithin, ReachesOrStops}
-use Rattle.s39_input.proofs.Taking.Parts.{done_to}
+use Rattle.s39_input.proofs.Taking.PartsBetweenLineFeeds.{done_to}
 use Rattle.s39_input.proofs.Taking.Reading.{stops_in_piece}
 use Rattle.s39_input.proofs.lines.Unfinished.take_piece.Goals as goal
 

@@ -5,7 +5,7 @@ use Rattle.s39_set.specs.declared.set_error.Added.TheVariants.{New, Repeat}
 use Rattle.s39_set.specs.ShareSet.{IsShareSet, CanJoin, HasOneMore, name_of}
 use Rattle.s39_set.specs.Slots.{shares_at, slot_of, IsKept}
 use Rattle.s39_lists.proofs.Images.{Contains-map, one_of_map}
-use Rattle.s39_set.proofs.Joins.{joins_from_none, same_from_joins, not_refused}
+use Rattle.s39_set.proofs.SharesThatJoin.{joins_from_none, same_from_joins, not_refused}
 use Rattle.s39_set.proofs.Slots.{empty_slot, has_one_more, kept_more}
 use Rattle.s39_set.proofs.share_set.ShareSet.add.Goals as goal
 use Rattle.s39_set.proofs.share_set.ShareSet.add.Goals.{After-is_at_hand}

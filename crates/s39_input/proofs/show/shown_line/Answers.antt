@@ -4,7 +4,7 @@ use Rattle.s39_input.specs.declared.output.TheConstants.{LINE_BYTES}
 use Rattle.std.proofs.lemmas.List.{length-append}
 use Rattle.hex.specs.Hex.{encode_lower}
 use Rattle.hex.proofs.HexLemmas.{length-encode_with}
-use Rattle.s39_input.proofs.show.line_of.Goals as goal
+use Rattle.s39_input.proofs.show.shown_line.Goals as goal
 
 pub push-requires : goal.push-requires
 push-requires c =

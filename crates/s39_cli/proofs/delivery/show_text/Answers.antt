@@ -2,8 +2,8 @@ use Rattle.std.proofs.Common.{◌≡◌, ◌∙◌, ap, subst, sym, true, false}
 use Rattle.std.specs.Io.KnownBytes.{Keeps}
 use Rattle.s39_cli.specs.Ending.{GoesOut}
 use Rattle.s39_cli.proofs.GoingOut.{shown_whole}
-use Rattle.s39_cli.proofs.delivery.show.Goals as goal
-use Rattle.s39_cli.proofs.delivery.show.Goals.{then-write_whole, else-write_whole}
+use Rattle.s39_cli.proofs.delivery.show_text.Goals as goal
+use Rattle.s39_cli.proofs.delivery.show_text.Goals.{then-write_whole, else-write_whole}
 
 pub returns : goal.returns
 returns g c =

@@ -1,10 +1,10 @@
 use Rattle.s39_drilling.proofs.Drills.Drilling.{some_drill_of}
-use Rattle.s39_drilling.proofs.Drills.OneDrill.{one_drill}
-use Rattle.s39_drilling.proofs.laws.one_drill.Goals as goal
+use Rattle.s39_drilling.proofs.Drills.OneDrill.{one_drill_of_a_set}
+use Rattle.s39_drilling.proofs.laws.one_drill_of_a_set.Goals as goal
 
 pub returns-clause-once : goal.returns-clause-once
 returns-clause-once c = λ form set passphrase after limit text other more another mismatches others is.
-    one_drill c.one_listing.ensures.once c.one_outcome.ensures set passphrase is after limit text other more another mismatches others
+    one_drill_of_a_set c.one_listing.ensures.once c.one_outcome.ensures set passphrase is after limit text other more another mismatches others
 
 pub returns-clause-exists : goal.returns-clause-exists
 returns-clause-exists c = λ form set passphrase after limit is.
