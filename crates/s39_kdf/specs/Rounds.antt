@@ -27,13 +27,13 @@ RoundsHaveOneUndone = (passphrase : List ℕ) (params : Params) (round : ℕ) (t
     → (undone : List ℕ) × IsUndone passphrase params round text undone
     × ((other : List ℕ) → IsUndone passphrase params round text other → other ≡ undone)
 
--- the text that is undone has the same length, and if the text consists of bytes, so does it
+-- a text keeps its length when a round is undone, and bytes stay bytes
 abbrev pub UndoingKeepsLengthAndBytes : Type 0
 UndoingKeepsLengthAndBytes = (passphrase : List ℕ) (params : Params) (round : ℕ) (text undone : List ℕ)
     → IsUndone passphrase params round text undone
     → (length undone ≡ length text) × (AreBytes text → AreBytes undone)
 
--- if rounds 3, 2, 1 and 0 are undone, each of what the one before it gave, the secret is found whose encryption the first text is
+-- if rounds 3, 2, 1 and 0 are undone, each of what the one before it gave, the last text is the secret whose encryption the first one is
 abbrev pub UndoneRoundsDecrypt : Type 0
 UndoneRoundsDecrypt = (passphrase : List ℕ) (params : Params) (encrypted third second first secret : List ℕ)
     → IsUndone passphrase params 3 encrypted third

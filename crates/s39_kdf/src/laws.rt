@@ -45,7 +45,7 @@ pub fn one_undone()
     ensures { RoundsHaveOneUndone }
 {}
 
-/// The text that is undone is as long as the text, and if the text consists of bytes, so does it.
+/// A text keeps its length when a round is undone, and bytes stay bytes.
 pub fn undoing_keeps_length_and_bytes()
     ensures { UndoingKeepsLengthAndBytes }
 {}

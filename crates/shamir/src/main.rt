@@ -38,6 +38,8 @@ fn destination_of(output: &impl IsTerminal) -> Destination {
     }
 }
 
+/// The exit status, unless the system doesn't give the words.
+#[inline(never)]
 fn status(rt: &HostRuntime) -> io::Result<u8> {
     let alloc = rt.alloc();
     let arguments: Vec<String> = env::args(rt)?.collect(alloc)?;
@@ -64,16 +66,13 @@ fn status(rt: &HostRuntime) -> io::Result<u8> {
     Ok(with_rest_dropped(ended, errors).status())
 }
 
-/// The exit status, whatever happened before.
-#[inline(never)]
-fn ended(rt: &HostRuntime) -> u8 {
-    status(rt).unwrap_or_else(|error| no_words(&error, &mut Messages::new(rt.stderr())))
-}
-
 fn main(rt: HostRuntime) -> ExitCode {
     // The system gives the stack here, before a secret is read. So the clearing at the end can't fail for lack of it.
     let _ = clear_stack::<REACHED>();
-    let status = ended(&rt);
+    let ended = status(&rt).unwrap_or_else(|error| no_words(
+        &error,
+        &mut Messages::new(rt.stderr()),
+    ));
     let _ = clear_stack::<REACHED>();
-    ExitCode::from(status)
+    ExitCode::from(ended)
 }
