@@ -417,10 +417,10 @@ shamir_answer shamir_decrypt(
  * secret, and then each time with the text that the call before gave. The last text is the secret that shamir_decrypt gives. Each
  * call takes a quarter of the iterations of shamir_decrypt.
  *
- * The text with this round undone goes to the start of undone. written is its length, which is encrypted_bytes. Clear each text: the
- * one after round 1 ends with the second half of the secret, and passphrases can be tried on the others with fewer iterations than on the
- * encrypted secret. The call compares no fingerprint, so compare what shamir_fingerprint gives of the secret. It refuses with 1
- * only after the iterations.
+ * The text with this round undone goes to the start of undone. written is its length, which is encrypted_bytes. Clear each text:
+ * passphrases can be tried on it with fewer iterations than on the encrypted secret, and after round 1 it ends with the second half of
+ * the secret. The call compares no fingerprint: compare what shamir_fingerprint gives of the secret. It refuses with 1 only after the
+ * iterations.
  *
  * The call refuses with the first of these that applies: 2 (a field of *parameters is out of its range, or round is above 3), 41, 42
  * (encrypted_bytes), 1.
