@@ -41,8 +41,8 @@
 //!
 //! The crate uses neither `std` nor another crate. Without the feature `alloc`, which is on by default, it uses no allocator
 //! of Rust either. Then there are [`parse`], [`judge()`], [`recover()`], [`encrypted()`], [`decrypt`], [`decrypt_round`],
-//! [`decrypt_rounds`], [`status()`], [`quorums()`], [`fingerprint`], [`version()`], and the calls that write into the caller's room: [`create_into`], [`reissue_into`],
-//! [`resplit_into`], [`create_from_encrypted_into`], [`repair_into`] and [`words_into`].
+//! [`decrypt_rounds`], [`status()`], [`quorums()`], [`fingerprint`], [`version()`], and the calls that write into the caller's
+//! room: [`create_into`], [`reissue_into`], [`resplit_into`], [`create_from_encrypted_into`], [`repair_into`] and [`words_into`].
 //!
 //! # The library
 //!
