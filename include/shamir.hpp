@@ -490,6 +490,36 @@ inline Answer<Secret> decrypt(const EncryptedSecret &secret, const DecryptOption
     });
 }
 
+/* Undoes one round of the cipher, and gives the text. With the rounds 3, 2, 1 and 0, each with the text of the one before as its value,
+   it gives the secret. */
+inline Answer<Secret> decrypt_round(const EncryptedSecret &secret, std::uint8_t round, Text passphrase = {})
+{
+    return detail::written<std::uint8_t>(SHAMIR_SECRET_BYTES_MAX, [&](std::uint8_t *room, std::size_t size) {
+        return shamir_decrypt_round(
+            &secret, round, secret.value.data(), secret.value.size(), passphrase.data(), passphrase.size(), room, size);
+    });
+}
+
+/* Decrypts round by round. After each of the first three rounds, go_on(undone) gets how many of the four are undone, and returns
+   whether to go on. If it stops, there is no secret. No fingerprint is compared. */
+template <class GoOn> Answer<std::optional<Secret>> decrypt_rounds(const EncryptedSecret &secret, Text passphrase, GoOn &&go_on)
+{
+    EncryptedSecret text = secret;
+    for (unsigned undone = 1;; undone++) {
+        auto found = decrypt_round(text, static_cast<std::uint8_t>(4 - undone), passphrase);
+        if (!found) {
+            return found.error();
+        }
+        text.value = *std::move(found);
+        if (undone == 4) {
+            return std::optional<Secret>(std::move(text.value));
+        }
+        if (!go_on(undone)) {
+            return std::optional<Secret>();
+        }
+    }
+}
+
 namespace detail {
 
 /* Makes a call that writes a status. */

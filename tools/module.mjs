@@ -43,6 +43,9 @@ const COMMANDS = {
   decrypt(words, { id, extendable = false, exponent, passphrase, expect }, value) {
     return ended([hex(shamir.decrypt({ id: Number(id), extendable, exponent: Number(exponent), value }, { passphrase, expect }))]);
   },
+  decrypt_round([round], { id, extendable = false, exponent, passphrase }, value) {
+    return ended([hex(shamir.decryptRound({ id: Number(id), extendable, exponent: Number(exponent), value }, Number(round), { passphrase }))]);
+  },
   drill(words, { passphrase, after, limit = Infinity, fingerprint = false, expect }, lines) {
     const listed = [];
     for (const outcome of shamir.drill(lines, { passphrase, after, fingerprints: fingerprint, expect })) {

@@ -10,7 +10,7 @@ FOREIGN = "ffi.rs"
 # What stands for a type of C in the declarations.
 TYPES = {
     "const char *": "*const c_char", "char *": "*mut c_char", "const uint8_t *": "*const u8", "uint8_t *": "*mut u8", "size_t": "usize",
-    "uint32_t": "u32", "void *": "*mut u8", "shamir_share *": "*mut Fields", "const shamir_answer *": "*const Answer",
+    "uint8_t": "u8", "uint32_t": "u32", "void *": "*mut u8", "shamir_share *": "*mut Fields", "const shamir_answer *": "*const Answer",
     "shamir_parameters *": "*mut Parameters", "const shamir_parameters *": "*const Parameters", "shamir_judgement *": "*mut Judged",
 }
 FIELDS = {"uint8_t": "u8", "uint16_t": "u16", "uint32_t": "u32", "uint64_t": "u64", "shamir_share": "Fields"}

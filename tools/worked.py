@@ -265,6 +265,65 @@ DECRYPTED: List[Row] = [
     (ONE_KEPT, ONE_ENCRYPTED, None, "df41d8fe", Answer(52, "other secret"), ""),
 ]
 
+# What the rounds 3 to 0 leave of an encrypted secret. hashlib.pbkdf2_hmac computed it.
+UNDONE: List[Row] = [
+    (ONE_KEPT, ONE_ENCRYPTED, KEY, [
+        "ba78c0701293e417dbdaa6df3514c7a6",
+        "dbdaa6df3514c7a6c5644ef3eb053de2",
+        "c5644ef3eb053de2ba37d9cc21b2cece",
+        "bb54aac4b89dc868ba37d9cc21b2cece",
+    ]),
+    (ONE_KEPT, ONE_ENCRYPTED, None, [
+        "ba78c0701293e41727b7dbfbe08e83ce",
+        "27b7dbfbe08e83ce929d7db489dd6c4d",
+        "929d7db489dd6c4dee9b0564c5a0bd0b",
+        "3972a9318cf16a33ee9b0564c5a0bd0b",
+    ]),
+    (FIVE_KEPT, FIVE_ENCRYPTED, KEY, [
+        "04447ff0a4a32f695ba74e3c43bc2c75",
+        "5ba74e3c43bc2c757b3377e2884ece1f",
+        "7b3377e2884ece1fba37d9cc21b2cece",
+        "bb54aac4b89dc868ba37d9cc21b2cece",
+    ]),
+    (OLD_KEPT, OLD_ENCRYPTED, KEY, [
+        "92f06fff3ed8b3e1cbed64bd59fb2d4e",
+        "cbed64bd59fb2d4eff09ffde7df70e2f",
+        "ff09ffde7df70e2fd42c33672bdaa428",
+        "48b1a4b80b8c209ad42c33672bdaa428",
+    ]),
+    (SLOW_KEPT, SLOW_ENCRYPTED, KEY, [
+        "bfe219291976433b3b28daded89eb0ab",
+        "3b28daded89eb0abfcc84b573aa13684",
+        "fcc84b573aa136844351d288a838f45e",
+        "1679b4516e0ee5954351d288a838f45e",
+    ]),
+    (LONG_KEPT, LONG_ENCRYPTED, KEY, [
+        "6d1e8d909da580f9f9f04ea5c788d2121b68eb6904d344598a7e982732ac70ab",
+        "1b68eb6904d344598a7e982732ac70ab137298438520fa93b0212c0aacc71c0c",
+        "137298438520fa93b0212c0aacc71c0c77025dce88ae83e75a230086a0e00e92",
+        "989baf9dcaad5b10ca33dfd8cc75e42477025dce88ae83e75a230086a0e00e92",
+    ]),
+    ((0, 1, 0), bytes(range(128)), KEY, [
+        "404142434445464748494a4b4c4d4e4f505152535455565758595a5b5c5d5e5f606162636465666768696a6b6c6d6e6f707172737475767778797a7b7c7d7e7ff8b1209036073b774b3ee0aac4af080d705f9c6f156e88242805270d19d208e2246f69e1ed31d5c6a5825f5b33657c492f62a233cbc65ff7db05682fe003ce9b",
+        "f8b1209036073b774b3ee0aac4af080d705f9c6f156e88242805270d19d208e2246f69e1ed31d5c6a5825f5b33657c492f62a233cbc65ff7db05682fe003ce9be968b19f6d69c92b97d46b3848afaa32b73493c9729b610ae8d9c1de9e663c85b513fcef525f0164ef0de98a9e7c0a627ccd1f5ff5475f28c20371373840fed8",
+        "e968b19f6d69c92b97d46b3848afaa32b73493c9729b610ae8d9c1de9e663c85b513fcef525f0164ef0de98a9e7c0a627ccd1f5ff5475f28c20371373840fed8347ca4c8dcb6b2a9440b8e94326619b956c546b07eada77c64cf6e228c91ec6d86866445af8b37d19349b407b4a771ff0abb70bf1aae2ac2922b026b78967725",
+        "bb03bc2138fc7b225d025b78a69e07185dab20232a0f825f0e6c196274d9b21d927bbe7014e03f56407de94bdc27fce4aa30a9be92d53c485611f89aba163fed347ca4c8dcb6b2a9440b8e94326619b956c546b07eada77c64cf6e228c91ec6d86866445af8b37d19349b407b4a771ff0abb70bf1aae2ac2922b026b78967725",
+    ]),
+]
+
+# A round that is refused.
+ROUNDS: List[Row] = [
+    ((32768, 0, 0), 4, None, "a\x07", Answer(2, "number out of range")),
+    ((1, 2, 0), 0, None, "a\x07", Answer(2, "number out of range")),
+    ((1, 0, 16), 3, ONE_ENCRYPTED, KEY, Answer(2, "number out of range")),
+    (ONE_KEPT, 4, None, "a\x07", Answer(2, "number out of range")),
+    (ONE_KEPT, 255, ONE_ENCRYPTED, KEY, Answer(2, "number out of range")),
+    (ONE_KEPT, 3, None, "a\x07", Answer(41, "passphrase byte 2 not printable", first=2)),
+    (ONE_KEPT, 3, None, KEY, Answer(42, "secret of 0 bytes")),
+    (ONE_KEPT, 0, SECRET[1:], KEY, Answer(42, "secret of 15 bytes", first=15)),
+    (ONE_KEPT, 0, bytes(130), KEY, Answer(42, "secret of 130 bytes", first=130)),
+]
+
 
 def listed(names: str) -> str:
     """Returns the line of a quorum with the secret."""
@@ -677,6 +736,12 @@ def examples() -> Iterator[Example]:
         yield example("encrypted", [lines], answer, output, fields=kept or ())
     for kept, value, key, expected, answer, output in DECRYPTED:
         yield example("decrypt", [*kept, value, key, expected], answer, output)
+    for kept, value, key, texts in UNDONE:
+        for number, text in zip((3, 2, 1, 0), map(bytes.fromhex, texts)):
+            yield example("decrypt_round", [*kept, number, value, key], DONE, text)
+            value = text
+    for kept, number, value, key, answer in ROUNDS:
+        yield example("decrypt_round", [*kept, number, value, key], answer)
     for lines, key, most, after, limit, form, expected, room, answer, mismatches, output in DRILLED:
         yield example("drill", [lines, key, most, after, limit, form, expected], answer, output, room=room, mismatches=mismatches)
     for lines, line, answer, output, fields in [*JUDGED, *judged_vectors()]:

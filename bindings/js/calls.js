@@ -111,7 +111,7 @@ function answered(memory, { slots, base }) {
   return { code: view.getUint32(0, true), line, first, second, whole: view.getBigUint64(16, true), output };
 }
 
-const CALLS = ["create", "create_from_encrypted", "decrypt", "drill", "encrypted", "fingerprint", "judge", "parse", "quorums", "random_needed", "recover", "reissue", "repair", "resplit", "status", "text", "version", "words"];
+const CALLS = ["create", "create_from_encrypted", "decrypt", "decrypt_round", "drill", "encrypted", "fingerprint", "judge", "parse", "quorums", "random_needed", "recover", "reissue", "repair", "resplit", "status", "text", "version", "words"];
 const EXPORTS = ["memory", "__heap_base", ...CALLS.map((name) => `shamir_${name}`)];
 
 /** A compiled module, and an instance of it. */

@@ -114,6 +114,34 @@ export class Engine {
      */
     decrypt(encrypted: EncryptedSecret, options?: import("./types.js").DecryptOptions | undefined): Uint8Array;
     /**
+     * Undoes one of the four rounds of the cipher, and returns the text.
+     *
+     * The rounds 3, 2, 1 and 0, in this order and each with the text of the one before as the value, give the secret that `decrypt`
+     * gives. Each takes a quarter of its iterations. `decryptRounds` makes the four calls, and clears the texts between them.
+     *
+     * Throws a `Refusal` with one of the codes 2 (a field is out of range, or the round is above 3), 41 or 42.
+     * @param {EncryptedSecret} encrypted
+     * @param {number} round
+     * @param {Pick<DecryptOptions, "passphrase">} [options]
+     * @returns {Uint8Array}
+     */
+    decryptRound(encrypted: EncryptedSecret, round: number, options?: Pick<import("./types.js").DecryptOptions, "passphrase"> | undefined): Uint8Array;
+    /**
+     * Returns an iterator that decrypts what `encrypted` gave round by round, so that a program can show how far it is, and stop.
+     *
+     *     let secret = null;
+     *     for (secret of shamir.decryptRounds(kept, { passphrase: "TREZOR" })) console.log(secret === null ? "not yet" : "done");
+     *
+     * It gives null after each of the first three rounds, and then the secret. No fingerprint is compared: compare that of the secret. The
+     * arguments are copied at once. The copies and the texts between the rounds are cleared as the copies of `drill` are.
+     *
+     * Throws a `Refusal` as `decryptRound` does, at the first `next`.
+     * @param {EncryptedSecret} encrypted
+     * @param {Pick<DecryptOptions, "passphrase">} [options]
+     * @returns {Generator<Uint8Array | null, void, void>}
+     */
+    decryptRounds(encrypted: EncryptedSecret, options?: Pick<import("./types.js").DecryptOptions, "passphrase"> | undefined): Generator<Uint8Array | null, void, void>;
+    /**
      * Returns an iterator over what each quorum of mnemonics recovers, in ascending order of their names.
      *
      *     for (const outcome of shamir.drill(mnemonics, { passphrase: "TREZOR", fingerprints: true })) {

@@ -280,6 +280,56 @@ export class Engine {
   }
 
   /**
+   * Undoes one of the four rounds of the cipher, and returns the text.
+   *
+   * The rounds 3, 2, 1 and 0, in this order and each with the text of the one before as the value, give the secret that `decrypt`
+   * gives. Each takes a quarter of its iterations. `decryptRounds` makes the four calls, and clears the texts between them.
+   *
+   * Throws a `Refusal` with one of the codes 2 (a field is out of range, or the round is above 3), 41 or 42.
+   * @param {EncryptedSecret} encrypted
+   * @param {number} round
+   * @param {Pick<DecryptOptions, "passphrase">} [options]
+   * @returns {Uint8Array}
+   */
+  decryptRound(encrypted, round, options = {}) {
+    const { passphrase = "" } = known(options, ["passphrase"]);
+    const parameters = parametersOf(encrypted);
+    const number = wholeNumber(round, "the round", 255);
+    return withCopies((own) => {
+      const given = [own.data(encrypted.value, "the value"), own.text(passphrase, "the passphrase")];
+      return this.#output("shamir_decrypt_round", [parameters, number, ...given], SECRET_BYTES_MAX);
+    });
+  }
+
+  /**
+   * Returns an iterator that decrypts what `encrypted` gave round by round, so that a program can show how far it is, and stop.
+   *
+   *     let secret = null;
+   *     for (secret of shamir.decryptRounds(kept, { passphrase: "TREZOR" })) console.log(secret === null ? "not yet" : "done");
+   *
+   * It gives null after each of the first three rounds, and then the secret. No fingerprint is compared: compare that of the secret. The
+   * arguments are copied at once. The copies and the texts between the rounds are cleared as the copies of `drill` are.
+   *
+   * Throws a `Refusal` as `decryptRound` does, at the first `next`.
+   * @param {EncryptedSecret} encrypted
+   * @param {Pick<DecryptOptions, "passphrase">} [options]
+   * @returns {Generator<Uint8Array | null, void, void>}
+   */
+  decryptRounds(encrypted, options = {}) {
+    const { passphrase = "" } = known(options, ["passphrase"]);
+    const parameters = parametersOf(encrypted);
+    const own = new Copies();
+    try {
+      const rounds = this.#rounds(own, parameters, own.data(encrypted.value, "the value"), own.text(passphrase, "the passphrase"));
+      rounds.next();
+      return rounds;
+    } catch (error) {
+      own.clear();
+      throw error;
+    }
+  }
+
+  /**
    * Returns an iterator over what each quorum of mnemonics recovers, in ascending order of their names.
    *
    *     for (const outcome of shamir.drill(mnemonics, { passphrase: "TREZOR", fingerprints: true })) {
@@ -628,6 +678,27 @@ export class Engine {
         for (const line of linesOf(output.subarray(0, second))) yield outcome(line, form[0] === FORM_FINGERPRINTS);
         last = decoded(output.subarray(second, -1));
         own.release(output);
+      }
+    } finally {
+      own.clear();
+    }
+  }
+
+  /**
+   * Yields null, then null after each of the first three rounds, and then the secret. Once the generator has yielded, leaving it clears
+   * the copies and the texts between the rounds.
+   * @param {Copies} own
+   * @param {Struct} parameters
+   * @param {Uint8Array} text
+   * @param {Uint8Array} passphrase
+   * @returns {Generator<Uint8Array | null, void, void>}
+   */
+  *#rounds(own, parameters, text, passphrase) {
+    try {
+      yield null;
+      for (const round of [3, 2, 1, 0]) {
+        text = own.keep(this.#output("shamir_decrypt_round", [parameters, round, text, passphrase], SECRET_BYTES_MAX));
+        yield round > 0 ? null : copied(text);
       }
     } finally {
       own.clear();

@@ -33,6 +33,22 @@ export class InWorker {
      */
     decrypt(encrypted: EncryptedSecret, options?: import("./types.js").DecryptOptions | undefined, signal?: AbortSignal | undefined): Promise<Uint8Array>;
     /**
+     * @param {EncryptedSecret} encrypted
+     * @param {number} round
+     * @param {Pick<DecryptOptions, "passphrase">} [options]
+     * @param {AbortSignal} [signal]
+     * @returns {Promise<Uint8Array>}
+     */
+    decryptRound(encrypted: EncryptedSecret, round: number, options?: Pick<import("./types.js").DecryptOptions, "passphrase"> | undefined, signal?: AbortSignal | undefined): Promise<Uint8Array>;
+    /**
+     * Yields null after each of the first three rounds, and then the secret, as `decryptRounds` of the engine does.
+     * @param {EncryptedSecret} encrypted
+     * @param {Pick<DecryptOptions, "passphrase">} [options]
+     * @param {AbortSignal} [signal]
+     * @returns {AsyncGenerator<Uint8Array | null, void, void>}
+     */
+    decryptRounds(encrypted: EncryptedSecret, options?: Pick<import("./types.js").DecryptOptions, "passphrase"> | undefined, signal?: AbortSignal | undefined): AsyncGenerator<Uint8Array | null, void, void>;
+    /**
      * Yields what each quorum recovers, as `drill` of the engine does. The worker computes it in parts of a fifth of a second.
      * @param {Lines} lines
      * @param {DrillOptions} [options]

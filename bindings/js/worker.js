@@ -10,7 +10,7 @@
  * Each call copies its arguments into the worker. Whoever clears arguments can't clear these copies: `end` drops them all.
  */
 import { refusalOf } from "./clones.js";
-import { plain } from "./copies.js";
+import { Copies, plain } from "./copies.js";
 
 /** @typedef {import("./types.js").CreateOptions} CreateOptions */
 /** @typedef {import("./types.js").DecryptOptions} DecryptOptions */
@@ -127,6 +127,38 @@ export class InWorker {
    */
   decrypt(encrypted, options = {}, signal) {
     return this.#call("decrypt", [encrypted, options], signal);
+  }
+
+  /**
+   * @param {EncryptedSecret} encrypted
+   * @param {number} round
+   * @param {Pick<DecryptOptions, "passphrase">} [options]
+   * @param {AbortSignal} [signal]
+   * @returns {Promise<Uint8Array>}
+   */
+  decryptRound(encrypted, round, options = {}, signal) {
+    return this.#call("decryptRound", [encrypted, round, options], signal);
+  }
+
+  /**
+   * Yields null after each of the first three rounds, and then the secret, as `decryptRounds` of the engine does.
+   * @param {EncryptedSecret} encrypted
+   * @param {Pick<DecryptOptions, "passphrase">} [options]
+   * @param {AbortSignal} [signal]
+   * @returns {AsyncGenerator<Uint8Array | null, void, void>}
+   */
+  async *decryptRounds(encrypted, options = {}, signal) {
+    const own = new Copies();
+    try {
+      let text = encrypted;
+      for (const round of [3, 2, 1]) {
+        text = { ...encrypted, value: own.keep(await this.#call("decryptRound", [text, round, options], signal)) };
+        yield null;
+      }
+      yield await this.#call("decryptRound", [text, 0, options], signal);
+    } finally {
+      own.clear();
+    }
   }
 
   /**

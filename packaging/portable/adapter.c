@@ -289,6 +289,22 @@ shamir_answer shamir_decrypt(
     RETURN_ANSWER(&c, secret);
 }
 
+shamir_answer shamir_decrypt_round(
+    const shamir_parameters *parameters, uint8_t round, const uint8_t *encrypted, size_t encrypted_bytes, const char *passphrase,
+    size_t passphrase_bytes, uint8_t *undone, size_t undone_bytes)
+{
+    call c = new_call();
+    u32 fields = place(&c, PARAMETERS_BYTES), from = given(&c, encrypted, encrypted_bytes), words = given(&c, passphrase, passphrase_bytes);
+    size_t room_bytes = at_most(undone_bytes, SHAMIR_SECRET_BYTES_MAX);
+
+    c.room = place(&c, room_bytes);
+    if (!begin(&c))
+        return no_memory();
+    store_parameters(&c.m, fields, parameters);
+    module_decrypt_round(&c.m, ANSWER, fields, round, from, encrypted_bytes, words, passphrase_bytes, c.room, room_bytes);
+    RETURN_ANSWER(&c, undone);
+}
+
 shamir_answer shamir_drill(
     const char *lines, size_t lines_bytes, const char *passphrase, size_t passphrase_bytes, uint32_t max_exponent, const char *after,
     size_t after_bytes, uint32_t limit, uint32_t form, const char *expected, size_t expected_bytes, char *text, size_t text_bytes)

@@ -128,6 +128,11 @@ shamir::EncryptedSecret encrypted_secret(const Values &given, std::size_t place,
 
 Output decrypt(const Values &given) { return digits(shamir::decrypt(encrypted_secret(given, 0, 5), {*given[3], given[4]})); }
 
+Output decrypt_round(const Values &given)
+{
+    return digits(shamir::decrypt_round(encrypted_secret(given, 1, 5), static_cast<std::uint8_t>(number(given[0])), *given[4]));
+}
+
 std::string found(const shamir::Outcome &outcome)
 {
     if (outcome.secret) {
@@ -198,6 +203,7 @@ const std::map<std::string, Output (*)(const Values &)> commands = {
     {"show", show}, {"create", create}, {"recover", recover}, {"encrypted", encrypted}, {"decrypt", decrypt}, {"drill", drill},
     {"status", status}, {"judge", judge}, {"reissue", reissue}, {"resplit", resplit}, {"repair", repair}, {"words", words},
     {"create_from_encrypted", create_from_encrypted},
+    {"decrypt_round", decrypt_round},
 };
 
 } // namespace

@@ -152,6 +152,16 @@ void check_recovery()
     expect("encrypted", kept && kept->id == 1 && kept->exponent == 0 && std::equal(begins.begin(), begins.end(), kept->value.begin()));
     expect("decrypt", *shamir::decrypt(*kept, {key, "df41d8fe"}) == *found);
     expect("decrypt with another passphrase", shamir::decrypt(*kept, {"x", "df41d8fe"}).error().code == SHAMIR_E_OTHER_SECRET);
+    shamir::EncryptedSecret text = *kept;
+    for (std::uint8_t round = 4; round-- > 0;) {
+        text.value = *shamir::decrypt_round(text, round, key);
+    }
+    expect("decrypt_round", text.value == *found && shamir::decrypt_round(*kept, 4, key).error().code == SHAMIR_E_OUT_OF_RANGE);
+    unsigned told = 0;
+    const auto undone = shamir::decrypt_rounds(*kept, key, [&](unsigned rounds) { return rounds == ++told; });
+    expect("decrypt_rounds", undone && **undone == *found && told == 3);
+    expect("decrypt_rounds that is stopped", !*shamir::decrypt_rounds(*kept, key, [](unsigned rounds) { return rounds < 3; }));
+    expect("decrypt_rounds that is refused", shamir::decrypt_rounds(*kept, "\a", [](unsigned) { return true; }).error().code == SHAMIR_E_PASSPHRASE);
 }
 
 void check_reading()

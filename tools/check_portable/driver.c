@@ -117,6 +117,13 @@ static void decrypt(const made_call *c, result *r)
     r->answer = shamir_decrypt(&given, BYTES(3), TEXT(4), TEXT(5), r->output, r->room);
 }
 
+static void decrypt_round(const made_call *c, result *r)
+{
+    shamir_parameters given = {(uint16_t)WIDE(0), (uint8_t)WIDE(1), (uint8_t)WIDE(2)};
+
+    r->answer = shamir_decrypt_round(&given, (uint8_t)WIDE(3), BYTES(4), TEXT(5), r->output, r->room);
+}
+
 static void create_from_encrypted(const made_call *c, result *r)
 {
     shamir_parameters given = {(uint16_t)WIDE(1), (uint8_t)WIDE(2), (uint8_t)WIDE(3)};
@@ -160,6 +167,7 @@ static const struct {
     {"fingerprint", fingerprint, 1}, {"words", words, 1},       {"text", text, 6},       {"version", version, 0},
     {"wipe", wipe, 1},     {"quorums", quorums, 1},             {"resplit", resplit, 3}, {"encrypted", encrypted, 1},
     {"decrypt", decrypt, 6}, {"judge", judge, 2},               {"create_from_encrypted", create_from_encrypted, 6},
+    {"decrypt_round", decrypt_round, 6},
 #ifdef MARKED
     {"control", control, 1},
 #endif

@@ -8,7 +8,7 @@ from tool import tool
 compare, module = tool("compare"), tool("module")
 
 ENOUGH = {"parse": 128, "create": 253440, "recover": 128, "drill": 65536, "status": 1638, "reissue": 253440, "repair": 1980, "resplit": 253440}
-ENOUGH |= {"encrypted": 128, "decrypt": 128, "judge": 1638, "create_from_encrypted": 253440}
+ENOUGH |= {"encrypted": 128, "decrypt": 128, "decrypt_round": 128, "judge": 1638, "create_from_encrypted": 253440}
 ENOUGH |= {"fingerprint": 8, "words": 7231, "text": 64, "version": 64}
 CODES = [*range(0, 35), 41, 42, 43, 44, 51, 52, *range(61, 69), 71, 72, 99, 2**32 - 1]
 FORMS = [0, 0, 1, 2, 2, 3]
@@ -63,6 +63,11 @@ def decrypt_call(rng: random.Random) -> str:
     value, passphrase = compare.made_secret(rng), compare.made_passphrase(rng)
     expected = rng.choice(["", "", "00000000", "x"])
     return call(rng, "decrypt", *parameters(rng), value, passphrase, expected)
+
+
+def decrypt_round_call(rng: random.Random) -> str:
+    value, passphrase = compare.made_secret(rng), compare.made_passphrase(rng)
+    return call(rng, "decrypt_round", *parameters(rng), rng.choice([0, 1, 2, 3] * 4 + [4, 255]), value, passphrase)
 
 
 def create_from_encrypted_call(rng: random.Random) -> str:
@@ -131,6 +136,7 @@ KINDS: Dict[Callable[[random.Random], str], int] = {
     parse_call: 18, random_needed_call: 8, create_call: 5, recover_call: 6, drill_call: 5, status_call: 12, reissue_call: 12,
     repair_call: 14, fingerprint_call: 6, words_call: 6, text_call: 6, version_call: 1, wipe_call: 1,
     judge_call: 10, quorums_call: 6, resplit_call: 8, encrypted_call: 8, decrypt_call: 4, create_from_encrypted_call: 8,
+    decrypt_round_call: 4,
 }  # fmt: skip
 
 

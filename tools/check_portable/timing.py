@@ -23,6 +23,8 @@ ALLOWED: Dict[Tuple[str, str], List[str]] = {
     ("recover", "passphrase"): [PRINTABLE],
     ("decrypt", "secret"): [],
     ("decrypt", "passphrase"): [PRINTABLE],
+    ("decrypt_round", "secret"): [],
+    ("decrypt_round", "passphrase"): [PRINTABLE],
     ("fingerprint", "secret"): [],
 }
 # The tool must see these two instructions of driver.c.

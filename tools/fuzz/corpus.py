@@ -10,9 +10,10 @@ from typing import Iterator
 
 ROOT = pathlib.Path(__file__).resolve().parents[2]
 # The numbers by which the targets know the calls, and that of the largest room.
-PARSE, RECOVER, ENCRYPTED, DECRYPT, DRILL, STATUS, REISSUE, RESPLIT, REPAIR, FINGERPRINT, CREATE, JUDGE, FROM_ENCRYPTED, WORDS = range(14)
+PARSE, RECOVER, ENCRYPTED, DECRYPT, DRILL, STATUS, REISSUE, RESPLIT, REPAIR, FINGERPRINT, CREATE, JUDGE, FROM_ENCRYPTED, ROUND, WORDS = range(15)
 LARGEST = 9
 ASKED = {"parse": PARSE, "recover": RECOVER, "quorums": DRILL, "encrypted": ENCRYPTED, "decrypt": DECRYPT, "create": CREATE, "resplit": RESPLIT}
+ASKED |= {"create_from_encrypted": FROM_ENCRYPTED, "decrypt_round": ROUND}
 
 
 def inputs() -> Iterator[bytes]:
@@ -21,8 +22,8 @@ def inputs() -> Iterator[bytes]:
     for case in json.loads((ROOT / "vectors" / "vectors.json").read_text())["cases"]:
         given = case["given"]
         lines = "\n".join(given.get("mnemonics", [given.get("mnemonic", given.get("value", given.get("secret", "")))]))
+        texts = dict.fromkeys([RECOVER, DECRYPT, ROUND], given.get("passphrase", "")) | {DRILL: "", JUDGE: lines.partition("\n")[0]}
         for call in (ASKED[case["asks"]], next(others)):
-            texts = {RECOVER: given.get("passphrase", ""), DRILL: "", DECRYPT: given.get("passphrase", ""), JUDGE: lines.partition("\n")[0]}
             text = texts.get(call, given.get("plan", "2of3"))
             yield bytes([call, LARGEST]) + f"{text}\0{lines}".encode()
     yield from (bytes([call, LARGEST]) + b"em\0sixteen bytes or" for call in (WORDS, FINGERPRINT))

@@ -44,7 +44,7 @@ static shamir_answer call(unsigned which, block text, block lines, block room)
     shamir_judgement judgement;
     shamir_share share;
 
-    switch (which % 14) {
+    switch (which % 15) {
     case 0:
         return shamir_parse(lines.data, lines.size, &share, (uint8_t *)room.data, room.size);
     case 1:
@@ -76,6 +76,8 @@ static shamir_answer call(unsigned which, block text, block lines, block room)
         return shamir_create_from_encrypted(
             text.data, text.size, &parameters, bytes, lines.size < 16 ? lines.size : 16, bytes, lines.size < 14 ? lines.size : 14, room.data,
             room.size);
+    case 13:
+        return shamir_decrypt_round(&parameters, (uint8_t)(lines.size % 5), bytes, lines.size, text.data, text.size, (uint8_t *)room.data, room.size);
     default:
         return shamir_words(text.data, text.size, room.data, room.size);
     }

@@ -49,10 +49,20 @@ def split_anew(plan: str, new_plan: str, length: int) -> Backup:
     return replace(old, anew=Backup(new_plan, old.secret, given, plain.resplit(plain.parse_plan(new_plan), old.lines(), given)))
 
 
+def texts_between(backup: Backup) -> Iterator[bytes]:
+    """Yields what the rounds 3 to 1 leave of the encrypted secret."""
+    text = plain.encrypt(backup.secret, PASSPHRASE, backup.shares[0])
+    for number in (3, 2, 1):
+        text = plain.decrypt_round(text, number, PASSPHRASE, backup.shares[0])
+        yield text
+
+
 def values(backup: Backup) -> Iterator[Tuple[str, bytes]]:
     """Yields what is secret in a backup, each with its name."""
     yield "the secret", backup.secret
     yield "the encrypted secret", plain.encrypt(backup.secret, PASSPHRASE, backup.shares[0])
+    for text in texts_between(backup):
+        yield "a text between two rounds", text
     yield "the passphrase", PASSPHRASE
     yield "random bytes", backup.random
     members: Dict[int, List[Tuple[int, bytes]]] = {}

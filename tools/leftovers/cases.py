@@ -2,7 +2,7 @@
 from dataclasses import dataclass
 from typing import Any, Dict, Iterator, List, Union
 
-from backups import PASSPHRASE, Backup, created, plain, split_anew
+from backups import PASSPHRASE, Backup, created, plain, split_anew, texts_between
 
 PLAN = "2/2of3,1of1,3of5"
 NEW_PLAN = "2/1of1,3of4"
@@ -11,7 +11,7 @@ MANY = ",".join(["16of16"] * 16)
 ROOM = 253440
 # These calls get something secret.
 CALLS = ["parse", "create", "recover", "encrypted", "decrypt", "drill", "status", "judge", "quorums", "reissue", "resplit", "repair"]
-CALLS += ["fingerprint", "words", "create_from_encrypted"]
+CALLS += ["fingerprint", "words", "create_from_encrypted", "decrypt_round"]
 
 Argument = Union[bytes, str, int]
 
@@ -131,7 +131,7 @@ def readings(backup: Backup) -> Iterator[Case]:
 
 
 def encryptions(backup: Backup) -> Iterator[Case]:
-    """Yields what encrypted does with lines, and decrypt with an encrypted secret."""
+    """Yields what encrypted does with lines, and decrypt and decrypt_round with an encrypted secret."""
     enough, first = backup.lines("0.0", "0.2", "1.0"), backup.shares[0]
     mixed = backup.lines("0.0", "1.0") + other_value(backup.shares[1])
     for code, lines, room in [
@@ -155,6 +155,14 @@ def encryptions(backup: Backup) -> Iterator[Case]:
         (52, 0, value, PASSPHRASE, "00000000", 128),
     ]:
         yield Case("decrypt", code, [first["id"], first["extendable"], exponent, given, passphrase, expected, room])
+    for code, number, given, passphrase, room in [
+        *((0, number, text, PASSPHRASE, 128) for number, text in zip((3, 2, 1, 0), [value, *texts_between(backup)])),
+        (1, 3, value, PASSPHRASE, len(value) - 1),
+        (2, 4, value, PASSPHRASE, 128),
+        (41, 3, value, PASSPHRASE + b"\x07", 128),
+        (42, 3, value + b"\1", PASSPHRASE, 128),
+    ]:
+        yield Case("decrypt_round", code, [first["id"], first["extendable"], 0, number, given, passphrase, room])
 
 
 def reissues(backup: Backup) -> Iterator[Case]:

@@ -66,6 +66,15 @@ def decrypted(reader, given):
     return {"secret": reader.decrypt(bytes.fromhex(given["value"]), given["passphrase"].encode(), parameters(given)).hex()}
 
 
+def round_undone(reader, given):
+    params, value = parameters(given), bytes.fromhex(given["value"])
+    reader.check_params(params)
+    reader.check_round(given["round"])
+    reader.check_passphrase(given["passphrase"].encode())
+    reader.check_secret(value)
+    return {"undone": reader.decrypt_round(value, given["round"], given["passphrase"].encode(), params).hex()}
+
+
 def created_from_encrypted(reader, given):
     plan, value, random = reader.parse_plan(given["plan"]), bytes.fromhex(given["value"]), bytes.fromhex(given["random"])
     return {"mnemonics": [reader.mnemonic(share) for share in reader.split_encrypted(plan, parameters(given), value, random)]}
@@ -85,7 +94,7 @@ def split_anew(reader, given):
 
 ASKED = {
     "parse": parsed, "recover": recovered, "quorums": drilled, "create": created, "resplit": split_anew, "encrypted": combined, "decrypt": decrypted,
-    "create_from_encrypted": created_from_encrypted,
+    "create_from_encrypted": created_from_encrypted, "decrypt_round": round_undone,
 }
 
 

@@ -1,4 +1,4 @@
-"""Cases about encrypted secrets: what mnemonics combine to, what a passphrase makes of it, and new mnemonics of it."""
+"""Cases about encrypted secrets: what mnemonics combine to, what a passphrase makes of it, at once or round by round, and new mnemonics of it."""
 import plain
 
 from backups import PASSPHRASE, backup, drawn, flipped, mnemonics, sizes
@@ -54,6 +54,31 @@ def decryptions():
     yield decrypting("decrypted-accent", about, "a passphrase that isn't checked", passphrase="Z\u00fcrich", standard=PASSPHRASES)
 
 
+def undoing(id, about, finds, number, value, *, identifier=7945, extendable=False, passphrase=PASSPHRASE, standard=ENCRYPTION):
+    """Returns a case of one round of a decryption."""
+    given = {"identifier": identifier, "extendable": extendable, "exponent": 0, "value": value.hex(), "passphrase": passphrase, "round": number}
+    return Case(id, "decrypt_round", about, finds, standard, given)
+
+
+def undone():
+    """Encrypted secrets of which one round is undone, and rounds that are refused."""
+    for flag in (0, 1):
+        value = drawn(f"undone: {flag}", 16)
+        for number in (3, 2, 1, 0):
+            about = f"The flag is {flag}, and round {number} is undone" + (f" of what round {number + 1} leaves." if number < 3 else ".")
+            finds = "halves that change places" if number == 0 else "halves that stay in their places"
+            yield undoing(f"undone-{number}-flag-{flag}", about, finds, number, value, extendable=bool(flag))
+            value = plain.decrypt_round(value, number, PASSPHRASE.encode(), {"id": 7945, "extendable": flag, "exponent": 0})
+    yield undoing("undone-32-bytes", "The value has 32 bytes.", "halves of another length", 2, drawn("undone: 32", 32))
+    value = drawn("undone: refused", 16)
+    yield undoing("undone-refused-round", "The round is 4, and the last of four rounds is 3.", "a round that isn't checked", 4, value)
+    about = "The identifier is 32768, which has 16 bits."
+    yield undoing("undone-refused-identifier", about, "an identifier that isn't checked", 3, value, identifier=32768)
+    about, finds = "The passphrase isn't printable ASCII.", "a passphrase that isn't checked"
+    yield undoing("undone-refused-accent", about, finds, 3, value, passphrase="Z\u00fcrich", standard=PASSPHRASES)
+    yield undoing("undone-refused-17-bytes", "The value has 17 bytes.", "a length that isn't checked", 3, drawn("undone: 17", 17))
+
+
 def splitting(id, about, finds, plan, *, number=7945, extendable=True, exponent=0, length=16, standard=SHARING, random=None):
     """Returns a case of a backup of an encrypted secret. Its random bytes are drawn from its name, as many as are needed, unless they are given."""
     random = drawn(f"{id}: random", plain.random_needed(sizes(plan), length)) if random is None else random
@@ -94,4 +119,5 @@ def sealed():
             yield case.id, [[backup[name] for name in first]], plain.combined(backup, first)
 
 
-KINDS = {"encrypted secrets": encrypted_secrets, "decryptions": decryptions, "split secrets": splits, "refused split secrets": refused_splits}
+KINDS = {"encrypted secrets": encrypted_secrets, "decryptions": decryptions, "rounds": undone}
+KINDS |= {"split secrets": splits, "refused split secrets": refused_splits}

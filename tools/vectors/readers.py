@@ -55,10 +55,12 @@ def library(shamir, case):
             found = shamir.encrypted(given["mnemonics"])
             numbers = {"identifier": found.id, "extendable": found.extendable, "exponent": found.exponent}
             return {"encrypted": numbers | {"value": found.value.hex()}}
-        if case.asks in ("decrypt", "create_from_encrypted"):
+        if case.asks in ("decrypt", "decrypt_round", "create_from_encrypted"):
             kept = shamir.EncryptedSecret(given["identifier"], given["extendable"], given["exponent"], bytes.fromhex(given["value"]))
             if case.asks == "decrypt":
                 return {"secret": shamir.decrypt(kept, passphrase=given["passphrase"]).hex()}
+            if case.asks == "decrypt_round":
+                return {"undone": shamir.decrypt_round(kept, given["round"], passphrase=given["passphrase"]).hex()}
             return {"mnemonics": shamir.create_from_encrypted(given["plan"], kept, random=bytes.fromhex(given["random"]))}
         if case.asks == "resplit":
             return {"mnemonics": shamir.resplit(given["plan"], given["mnemonics"], random=bytes.fromhex(given["random"]))}
@@ -91,7 +93,7 @@ def words_and_input(case, random):
 
 def of_program(program, case):
     """Returns what the program answers, or None for an empty mnemonic, which is no line of an input, and for what no command does."""
-    if case.asks in ("encrypted", "decrypt", "create_from_encrypted") or case.asks == "parse" and not case.given["mnemonic"]:
+    if case.asks in ("encrypted", "decrypt", "decrypt_round", "create_from_encrypted") or case.asks == "parse" and not case.given["mnemonic"]:
         return None
     with tempfile.NamedTemporaryFile() as random:
         random.write(bytes.fromhex(case.given.get("random", "")))

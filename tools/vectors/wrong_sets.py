@@ -22,6 +22,7 @@ PREFIX = 'prefix = b"" if params["extendable"] else b"shamir" + params["id"].to_
 PASSWORD = "bytes([i]) + passphrase, prefix"
 KEY = 'return hashlib.pbkdf2_hmac("sha256", bytes([i]) + passphrase, prefix + half, 2500 << params["exponent"], len(half))'
 ITERATIONS = '2500 << params["exponent"]'
+SINGLE = "return undone[len(text) // 2 :] + undone[: len(text) // 2] if number else undone"
 PRINTABLE = "if not 32 <= byte <= 126:"
 COMPARED = "if other[name] != share[name]:"
 AGREEING = [
@@ -147,6 +148,11 @@ ENCRYPTION = [
     ("first-zeros", "leaves out bytes of the secret that are 0 at its beginning", ("return right + left", "return (right + left).lstrip(bytes(1))")),
     ("last-zeros", "leaves out bytes of the secret that are 0 at its end", ("return right + left", "return (right + left).rstrip(bytes(1))")),
     ("halves-not-swapped", "doesn't swap the halves at the end", ("return right + left", "return left + right")),
+    ("round-halves-swapped", "swaps the halves in the last of single rounds", (SINGLE, SINGLE.replace(" if number else undone", ""))),
+    ("round-halves-kept", "never swaps the halves in single rounds", (SINGLE, "return undone")),
+    ("round-unchecked", "takes a fifth round", ("if number > 3:", "if number > 4:")),
+    ("identifier-unchecked", "takes an identifier of 16 bits", ('if params["id"] >= 2**15 or', 'if params["id"] >= 2**16 or')),
+    ("length-unchecked", "takes a value of an odd number of bytes", ("if n % 2 or not 16 <= n", "if not 16 <= n")),
     ("iterations-not-divided", "takes all iterations in each round", (ITERATIONS, ITERATIONS.replace("2500", "10000"))),
     ("exponent-ignored", "ignores the exponent", (ITERATIONS, "2500")),
     ("exponent-as-factor", "takes the exponent as a factor", (ITERATIONS, '2500 * (params["exponent"] + 1)')),

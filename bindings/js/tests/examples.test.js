@@ -5,7 +5,7 @@ import test from "node:test";
 import { load, OF_GROUPS } from "../shamir.js";
 import * as given from "./given.js";
 import { FIVE, FIVE_QUORUMS, MISMATCHED, MISMATCHED_GROUPS, ONE, PLAN, SECRET, TWO, TWO_SECRET } from "./given.js";
-import { ENCRYPTED, EXTENDABLE, SPLIT_ANEW, bytesOf, counting, file, ofHex, shamir } from "./given.js";
+import { ENCRYPTED, EXTENDABLE, SPLIT_ANEW, UNDONE, bytesOf, counting, file, ofHex, shamir } from "./given.js";
 
 const KEY = { passphrase: "TREZOR" };
 
@@ -73,6 +73,20 @@ test("encrypted and decrypt", () => {
   for (const expect of ["df41d8fe", bytesOf("DF41d8fe"), undefined]) assert.deepEqual(shamir.decrypt(ENCRYPTED[0], { ...KEY, expect }), SECRET);
   for (const options of [{ ...KEY, expect: "df41d8ff" }, { expect: "df41d8fe" }]) {
     assert.throws(() => shamir.decrypt(ENCRYPTED[0], options), { code: 52, line: null, details: [0, 0], text: "other secret" });
+  }
+});
+
+test("decryptRound and decryptRounds", () => {
+  for (const [i, texts] of UNDONE.entries()) {
+    let text = ENCRYPTED[2 + i];
+    for (const [place, undone] of texts.entries()) {
+      text = { ...text, value: shamir.decryptRound(text, 3 - place, KEY) };
+      assert.deepEqual(text.value, undone);
+    }
+    for (const passphrase of ["TREZOR", bytesOf("TREZOR")]) {
+      assert.deepEqual([...shamir.decryptRounds(ENCRYPTED[2 + i], { passphrase })], [null, null, null, texts[3]]);
+    }
+    assert.deepEqual([...shamir.decryptRounds(ENCRYPTED[2 + i])][3], shamir.decrypt(ENCRYPTED[2 + i]));
   }
 });
 

@@ -3,7 +3,7 @@ import assert from "node:assert/strict";
 import test from "node:test";
 import { Refusal } from "../shamir.js";
 import { FIVE, FIVE_QUORUMS, Instance, MISMATCHED, ONE, PLAN, SECRET, TWO } from "./given.js";
-import { CONFLICTING, ENCRYPTED, EXTENDABLE, bytesOf, counting, file, hex, instances, module, refused, shamir } from "./given.js";
+import { CONFLICTING, ENCRYPTED, EXTENDABLE, UNDONE, bytesOf, counting, file, hex, instances, module, refused, shamir } from "./given.js";
 
 const [{ exports }] = instances;
 const FRESH = memoryOf(new Instance(module));
@@ -40,6 +40,9 @@ const CALLS = {
   decrypt: () => shamir.decrypt(ENCRYPTED[0], { passphrase: "TREZOR", expect: "df41d8fe" }),
   "decrypt, refused": () => shamir.decrypt(ENCRYPTED[0], { passphrase: "TREZOR\x07" }),
   "decrypt, refused for another secret": () => shamir.decrypt(ENCRYPTED[0], { passphrase: "TREZOR", expect: "00000000" }),
+  decryptRound: () => shamir.decryptRound(ENCRYPTED[0], 3, { passphrase: "TREZOR" }),
+  "decryptRound, refused": () => shamir.decryptRound(ENCRYPTED[0], 4, { passphrase: "TREZOR" }),
+  decryptRounds: () => [...shamir.decryptRounds(ENCRYPTED[0], { passphrase: "TREZOR" })],
   drill: () => [...shamir.drill(FIVE, { passphrase: "TREZOR" })],
   "drill, fingerprints": () => [...shamir.drill(FIVE, { passphrase: "TREZOR", fingerprints: true })],
   "drill, compared": () => [...shamir.drill(FIVE, { passphrase: "TREZOR", expect: "df41d8fe" })],
@@ -195,6 +198,15 @@ test("copies of a drill are cleared when it ends, and when it is left", () => {
   assert.ok(refusals.includes("TREZOR"));
   const wrong = cleared(() => assert.throws(() => shamir.drill(FIVE, { passphrase: "TREZOR", after: 7 }), TypeError));
   assert.ok(wrong.includes("TREZOR"));
+});
+
+test("copies and texts of rounds are cleared when they end, and when they are left", () => {
+  for (const [count, way] of [[4, (rounds) => [...rounds]], [2, (rounds) => (rounds.next(), rounds.next(), rounds.return())], [0, (rounds) => rounds.return()]]) {
+    const found = cleared(() => way(shamir.decryptRounds(ENCRYPTED[2], { passphrase: "TREZOR" })));
+    for (const bytes of [bytesOf("TREZOR"), ENCRYPTED[2].value, ...UNDONE[0].slice(0, count)]) {
+      assert.ok(found.includes(Buffer.from(bytes).toString("latin1")));
+    }
+  }
 });
 
 // A module with one function, which traps.

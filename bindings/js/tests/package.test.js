@@ -4,7 +4,7 @@ import test from "node:test";
 import { Code, drillWithProgress, open, Papers, Refusal, refusalOf } from "../index.js";
 import { InWorker } from "../worker.js";
 import { CONFLICTING, ENCRYPTED, EXTENDABLE, FIVE, FIVE_QUORUMS, ONE, PLAN, SECRET, SPLIT_ANEW, TWO, TWO_SECRET } from "./given.js";
-import { bytesOf, counting, refused } from "./given.js";
+import { UNDONE, bytesOf, counting, refused } from "./given.js";
 
 const MODULE = new URL(`../../../${process.env.SHAMIR_MODULE ?? "shamir32.wasm"}`, import.meta.url);
 const KEY = { passphrase: "TREZOR" };
@@ -127,6 +127,10 @@ test("each call in a worker", async () => {
   const kept = await shamir.encrypted(new Set(FIVE));
   assert.deepEqual(kept, ENCRYPTED[2]);
   assert.deepEqual(await shamir.decrypt(kept, { ...KEY, expect: "df41d8fe" }), SECRET);
+  assert.deepEqual(await shamir.decryptRound(kept, 3, KEY), UNDONE[0][0]);
+  const rounds = [];
+  for await (const undone of shamir.decryptRounds(kept, KEY)) rounds.push(undone);
+  assert.deepEqual(rounds, [null, null, null, SECRET]);
   const names = [];
   for await (const outcome of shamir.drill(FIVE, { ...KEY, expect: "df41d8fe", after: FIVE_QUORUMS[0] })) {
     assert.equal(outcome.expected, true);
@@ -154,6 +158,7 @@ test("a refusal in a worker", async () => {
     await assert.rejects(shamir.drill(FIVE, options).next(), TypeError);
   }
   await assert.rejects(shamir.decrypt(Object.create(ENCRYPTED[0]), KEY), TypeError);
+  await assert.rejects(shamir.decryptRounds(Object.create(ENCRYPTED[0]), KEY).next(), TypeError);
   shamir.end();
 });
 

@@ -23,6 +23,7 @@ const BAD_GROUP_THRESHOLD = "duckling enlarge acrobat academic agency result len
 const none = { random: new Uint8Array() };
 const drill = (...given) => [...shamir.drill(...given)];
 const decrypt = (fields, options) => shamir.decrypt({ ...ENCRYPTED[0], ...fields }, options);
+const undo = (fields, number, options) => shamir.decryptRound({ ...ENCRYPTED[0], ...fields }, number, options);
 const renew = (plan, fields, options) => shamir.createFromEncrypted(plan, { ...ENCRYPTED[3], ...fields }, options);
 
 // A code, the line, the details, the text, and a call.
@@ -94,6 +95,12 @@ const REFUSALS = [
   [41, null, [2, 0], "passphrase byte 2 not printable", () => decrypt({ value: counting(15) }, { passphrase: "a\x07", expect: "df41d8fe" })],
   ...[0, 15, 17, 130].map((count) => [42, null, [count, 0], `secret of ${count} bytes`, () => decrypt({ value: counting(count) }, { expect: "df41d8fe" })]),
   [52, null, [0, 0], "other secret", () => decrypt({}, { expect: "df41d8fe" })],
+  ...[[{ id: 32768 }, 3], [{ exponent: 16 }, 0], [{}, 4], [{}, 255]].map(([fields, number]) => [
+    2, null, [0, 0], "number out of range", () => undo({ ...fields, value: counting(15) }, number, { passphrase: "a\x07" })
+  ]),
+  [41, null, [2, 0], "passphrase byte 2 not printable", () => undo({ value: counting(15) }, 3, { passphrase: "a\x07" })],
+  [42, null, [15, 0], "secret of 15 bytes", () => undo({ value: counting(15) }, 3)],
+  [42, null, [15, 0], "secret of 15 bytes", () => shamir.decryptRounds({ ...ENCRYPTED[0], value: counting(15) }).next()],
   [61, null, [0, 0], "bad cursor", () => drill(FIVE, { after: "0.1+", expect: "x" })],
   [61, null, [0, 0], "bad cursor", () => drill(FIVE, { after: "0.1+" })],
   [61, null, [0, 0], "bad cursor", () => drill(FIVE, { after: "" })],

@@ -85,6 +85,11 @@ test("wrong types are TypeErrors", () => {
       (fields) => () => shamir.decrypt({ ...ENCRYPTED[0], ...fields })
     ),
     () => shamir.decrypt(ENCRYPTED[0], { expect: null }),
+    () => shamir.decryptRound(ENCRYPTED[0]),
+    () => shamir.decryptRound(ENCRYPTED[0], "3"),
+    () => shamir.decryptRound(shamir.parse(ONE), 3),
+    () => shamir.decryptRounds(shamir.parse(ONE)),
+    () => shamir.decryptRounds({ ...ENCRYPTED[0], value: "00" }),
     () => shamir.drill(FIVE, { expect: null }),
     () => shamir.drill(FIVE, { expect: "df41d8fe", fingerprints: true }),
     () => shamir.drill(FIVE, { after: 0 }),
@@ -117,6 +122,8 @@ test("options are named, and each name is known", () => {
     () => shamir.resplit(PLAN, FIVE, { passphrase: "TREZOR" }),
     () => shamir.createFromEncrypted(PLAN, ENCRYPTED[3], { passphrase: "TREZOR" }),
     () => shamir.decrypt(ENCRYPTED[0], { passphrase: "TREZOR", maxExponent: 1 }),
+    () => shamir.decryptRound(ENCRYPTED[0], 3, { passphrase: "TREZOR", expect: "df41d8fe" }),
+    () => shamir.decryptRounds(ENCRYPTED[0], { passphrase: "TREZOR", expect: "df41d8fe" }),
   ]) {
     assert.throws(call, (error) => error instanceof TypeError && !/TREZOR|passphase/.test(error.message), call.toString());
   }
@@ -138,6 +145,8 @@ test("options that are inherited are noticed", () => {
       () => shamir.resplit(PLAN, FIVE, options),
       () => shamir.createFromEncrypted(PLAN, ENCRYPTED[3], options),
       () => shamir.decrypt(ENCRYPTED[0], options),
+      () => shamir.decryptRound(ENCRYPTED[0], 3, options),
+      () => shamir.decryptRounds(ENCRYPTED[0], options),
     ]) {
       assert.throws(call, (error) => error instanceof TypeError && !/TREZOR/.test(error.message), call.toString());
     }
@@ -160,6 +169,7 @@ test("numbers out of range are RangeErrors", () => {
     ...[2 ** 32, -1].map((maxExponent) => () => shamir.drill(ONE, { maxExponent })),
     ...[2 ** 53, -16, 16.5, NaN, -Infinity].map((length) => () => shamir.randomNeeded(PLAN, length)),
     ...[{ id: 65536 }, { id: -1 }, { exponent: 256 }, { exponent: 0.5 }].map((fields) => () => shamir.decrypt({ ...ENCRYPTED[0], ...fields })),
+    ...[256, -1, 0.5, NaN].map((round) => () => shamir.decryptRound(ENCRYPTED[0], round)),
     () => shamir.text({ code: 2 ** 32, details: [0, 0] }),
     () => shamir.text({ code: 11, details: [-1, 0] }),
     () => shamir.text({ code: 66, details: [1, 2 ** 53] }),
@@ -181,6 +191,8 @@ test("a string that UTF-8 can't encode is a RangeError", () => {
       () => shamir.recover(FIVE, { expect: text }),
       () => shamir.encrypted([ONE, text]),
       () => shamir.decrypt(ENCRYPTED[0], { passphrase: text }),
+      () => shamir.decryptRound(ENCRYPTED[0], 3, { passphrase: text }),
+      () => shamir.decryptRounds(ENCRYPTED[0], { passphrase: text }),
       () => shamir.drill(FIVE, { expect: text }),
     ]) {
       assert.throws(call, (error) => error instanceof RangeError && !error.message.includes("TREZOR"), call.toString());

@@ -48,7 +48,8 @@ from typing import Any, Callable, Dict, Generator, Iterable, List, Optional, Tup
 
 __all__ = ["Code", "Data", "EXPONENT_MAX", "EncryptedSecret", "GroupStatus", "Judgement", "Lines", "OF_GROUPS", "Outcome", "Papers", "Refusal"]
 __all__ += ["Share", "ShareFields", "Status", "Text"]
-__all__ += ["create", "create_from_encrypted", "decrypt", "decrypt_into", "drill", "encrypted", "encrypted_into", "fingerprint", "judge"]
+__all__ += ["create", "create_from_encrypted", "decrypt", "decrypt_into", "decrypt_round", "decrypt_rounds", "drill", "encrypted", "encrypted_into"]
+__all__ += ["fingerprint", "judge"]
 __all__ += ["library_version", "parse", "quorums", "random_needed", "recover", "recover_into", "reissue", "repair", "resplit", "status", "words"]
 
 __version__ = "1.0.0"
@@ -261,6 +262,7 @@ def _declared(library: ctypes.CDLL) -> ctypes.CDLL:
         ("shamir_recover", _SLICE * 2 + [ctypes.c_uint32] + _SLICE + _ROOM),
         ("shamir_encrypted", _SLICE + [ctypes.POINTER(_Parameters)] + _ROOM),
         ("shamir_decrypt", [ctypes.POINTER(_Parameters)] + _SLICE * 3 + _ROOM),
+        ("shamir_decrypt_round", [ctypes.POINTER(_Parameters), ctypes.c_uint8] + _SLICE * 2 + _ROOM),
         ("shamir_drill", _SLICE * 2 + [ctypes.c_uint32] + _SLICE + [ctypes.c_uint32] * 2 + _SLICE + _ROOM),
         ("shamir_status", _SLICE + _ROOM),
         ("shamir_judge", _SLICE * 2 + [ctypes.POINTER(_Judgement)] + _ROOM),
@@ -792,6 +794,47 @@ def decrypt_into(room: bytearray, secret: EncryptedSecret, *, passphrase: Data =
     with _Copies() as own:
         given = own.data(secret.value) + own.data(passphrase) + _slice(_expected(expect))
         return _checked(_library.shamir_decrypt(ctypes.byref(parameters), *given, *_room(room))).written
+
+
+def decrypt_round(secret: EncryptedSecret, round: int, *, passphrase: Text = b"") -> bytes:
+    """Undo one of the four rounds of the cipher, and return the text.
+
+    The rounds 3, 2, 1 and 0, in this order and each with the text of the one before as the value, give the secret that `decrypt` gives.
+    Each takes a quarter of its iterations. `decrypt_rounds` makes the four calls, and clears the texts between them.
+
+    Raises `Refusal` with one of the codes 2 (a field is out of range, or the round is above 3), 41 or 42.
+    """
+    parameters, number = _parameters(secret), _number(round, ctypes.c_uint8)
+    given = _slice(_data(secret.value)) + _slice(_bytes(passphrase))
+    return _filled(lambda out, room: _library.shamir_decrypt_round(ctypes.byref(parameters), number, *given, out, room), SECRET_BYTES_MAX)
+
+
+def decrypt_rounds(secret: EncryptedSecret, *, passphrase: Text = b"") -> Generator[Optional[bytes], None, None]:
+    """Decrypt what `encrypted` gave round by round, so that a program can show how far it is, and stop.
+
+    >>> kept = shamir.encrypted(mnemonics[1:])
+    >>> for undone, found in enumerate(shamir.decrypt_rounds(kept, passphrase="TREZOR"), 1):
+    ...     print(f"{undone} of 4")
+    1 of 4
+    2 of 4
+    3 of 4
+    4 of 4
+    >>> found == secret
+    True
+
+    The generator yields None after each of the first three rounds, and then the secret. When it ends or is closed, it clears its copies of
+    what it got, except of a str, and the texts between the rounds. No fingerprint is compared: compare that of the secret.
+
+    Raises `Refusal` as `decrypt_round` does, at the first `next`.
+    """
+    parameters = _parameters(secret)
+    with _Copies() as own:
+        text, key = own.data(secret.value), own.data(_encoded(passphrase) if isinstance(passphrase, str) else passphrase)
+        for number in (3, 2, 1, 0):
+            room = own.room(SECRET_BYTES_MAX)
+            given = (*text, *key, room, SECRET_BYTES_MAX)
+            text = room, _checked(_library.shamir_decrypt_round(ctypes.byref(parameters), number, *given)).written
+            yield None if number else ctypes.string_at(*text)
 
 
 def _parameters(secret: EncryptedSecret) -> _Parameters:

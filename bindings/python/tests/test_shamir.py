@@ -76,6 +76,11 @@ ENCRYPTED = [
     (FIVE, shamir.EncryptedSecret(1, False, 0, bytes.fromhex("ae3283670d8226e104447ff0a4a32f69")), SECRET),
     (EXTENDABLE, shamir.EncryptedSecret(9066, True, 0, bytes.fromhex("644c905b0c4da21692f06fff3ed8b3e1")), bytes.fromhex("48b1a4b80b8c209ad42c33672bdaa428")),
 ]
+# The texts that the rounds 3 to 1 leave of the last two. hashlib.pbkdf2_hmac computed them.
+UNDONE = [
+    ["04447ff0a4a32f695ba74e3c43bc2c75", "5ba74e3c43bc2c757b3377e2884ece1f", "7b3377e2884ece1fba37d9cc21b2cece"],
+    ["92f06fff3ed8b3e1cbed64bd59fb2d4e", "cbed64bd59fb2d4eff09ffde7df70e2f", "ff09ffde7df70e2fd42c33672bdaa428"],
+]
 # With these random bytes, 2of3 gives the two mnemonics of TWO in reverse order, and one between them.
 TWO_RANDOM = bytes.fromhex("64359164e7a006aadd75179d6d5c")
 ROOT = pathlib.Path(__file__).resolve().parents[3]
@@ -268,6 +273,56 @@ class WorkedExamples(unittest.TestCase):
             self.assertRaises(TypeError, shamir.decrypt, other)
         self.assertRaises(TypeError, lambda: shamir.decrypt(kept, "TREZOR"))
 
+    def test_decrypt_rounds(self):
+        for (_, kept, secret), texts in zip(ENCRYPTED[2:], UNDONE):
+            text = kept
+            for number, undone in zip((3, 2, 1, 0), [*map(bytes.fromhex, texts), secret]):
+                for value in odd(text.value):
+                    self.assertEqual(shamir.decrypt_round(dataclasses.replace(text, value=value), number, passphrase="TREZOR"), undone)
+                text = dataclasses.replace(text, value=undone)
+            for key in ("TREZOR", bytearray(b"TREZOR")):
+                self.assertEqual(list(shamir.decrypt_rounds(kept, passphrase=key)), [None, None, None, secret])
+            self.assertEqual(list(shamir.decrypt_rounds(kept))[3], shamir.decrypt(kept))
+
+    def test_decrypt_rounds_clears(self):
+        """A generator that is closed has cleared its copies and the texts between the rounds."""
+        made = []
+
+        class Copies(shamir._Copies):
+            def room(self, length):
+                made.append(super().room(length))
+                return made[-1]
+
+        with mock.patch.object(shamir, "_Copies", Copies):
+            for count in (1, 2, 3, 4):
+                made.clear()
+                rounds = shamir.decrypt_rounds(ENCRYPTED[2][1], passphrase=b"TREZOR")
+                for undone in [*map(bytes.fromhex, UNDONE[0]), SECRET][:count]:
+                    next(rounds)
+                    self.assertEqual(made[-1].raw, undone.ljust(128, b"\0"))
+                rounds.close()
+                self.assertEqual([copy.raw for copy in made], [bytes(len(copy)) for copy in made])
+                self.assertEqual(len(made), count + 2)
+
+    def test_what_decrypt_round_refuses(self):
+        """The parameters and the round are judged first, then the passphrase and the length."""
+        kept = ENCRYPTED[0][1]
+        short = dataclasses.replace(kept, value=bytes(15))
+        for changed, number in [({"id": 32768}, 3), ({"exponent": 16}, 0), ({}, 4), ({}, 255)]:
+            self.refused(2, None, (0, 0), shamir.decrypt_round, dataclasses.replace(short, **changed), number, passphrase="a\x07")
+        self.refused(41, None, (2, 0), shamir.decrypt_round, short, 3, passphrase="a\x07")
+        self.refused(42, None, (15, 0), shamir.decrypt_round, short, 3)
+        self.refused(41, None, (2, 0), list, shamir.decrypt_rounds(short, passphrase="a\x07"))
+        self.refused(42, None, (15, 0), list, shamir.decrypt_rounds(short))
+        for number in (256, -1):
+            self.assertRaises(OverflowError, shamir.decrypt_round, kept, number)
+        for number in (3.0, "3", None):
+            self.assertRaises(TypeError, shamir.decrypt_round, kept, number)
+        for other in (shamir.parse(ONE), kept.value, None):
+            self.assertRaises(TypeError, shamir.decrypt_round, other, 3)
+            self.assertRaises(TypeError, list, shamir.decrypt_rounds(other))
+        self.assertRaises(TypeError, lambda: shamir.decrypt_round(kept, 3, "TREZOR"))
+
     def test_into(self):
         """What is written into a bytearray is what the other calls give, and the bytes after it are unchanged."""
         for lines, kept, secret in ENCRYPTED:
@@ -315,6 +370,7 @@ class WorkedExamples(unittest.TestCase):
             ("shamir.recover_into(room, lines, passphrase=passphrase)", False),
             ("shamir.decrypt_into(room, shamir.encrypted_into(other, [lines[:138], lines[139:]]), passphrase=passphrase)", False),
             (LEFT_PAPERS, False),
+            ("rounds = shamir.decrypt_rounds(shamir.encrypted_into(other, lines), passphrase=passphrase); next(rounds); next(rounds); rounds.close()", False),
             ("kept = shamir.recover(lines, passphrase=passphrase)", True),
         ]:
             run = [sys.executable, "-B", "-c", LEFT.format(call=call)]
@@ -632,6 +688,7 @@ class WorkedExamples(unittest.TestCase):
             (16, lambda *room: library.shamir_recover(text, len(text), *key, 0, b"df41d8fe", 8, *room)),
             (16, lambda *room: library.shamir_encrypted(text, len(text), shamir._Parameters(), *room)),
             (16, lambda *room: library.shamir_decrypt(shamir._Parameters(1, 0, 0), bytes(16), 16, *key, None, 0, *room)),
+            (16, lambda *room: library.shamir_decrypt_round(shamir._Parameters(1, 0, 0), 3, bytes(16), 16, *key, *room)),
             (41, lambda *room: library.shamir_status(one, len(one), *room)),
             (144, lambda *room: library.shamir_reissue(PLAN.encode(), 16, b"0.1", 3, text, len(text), *room)),
             (144, lambda *room: library.shamir_resplit(b"1of1", 4, extendable, len(extendable), b"\x12\x34", 2, *room)),
@@ -721,6 +778,8 @@ class WorkedExamples(unittest.TestCase):
                 lambda: shamir.create("1of1", SECRET, random=gone),
                 lambda: shamir.recover(ONE, passphrase=gone),
                 lambda: shamir.decrypt(dataclasses.replace(ENCRYPTED[0][1], value=gone)),
+                lambda: shamir.decrypt_round(dataclasses.replace(ENCRYPTED[0][1], value=gone), 3),
+                lambda: next(shamir.decrypt_rounds(ENCRYPTED[0][1], passphrase=gone)),
                 lambda: shamir.recover(gone),
                 lambda: shamir.recover([ONE, gone]),
                 lambda: shamir.parse(gone),
@@ -756,6 +815,8 @@ class WorkedExamples(unittest.TestCase):
                 lambda: shamir.create_from_encrypted(bad, ENCRYPTED[0][1]),
                 lambda: shamir.encrypted(bad),
                 lambda: shamir.decrypt(ENCRYPTED[0][1], passphrase=bad),
+                lambda: shamir.decrypt_round(ENCRYPTED[0][1], 3, passphrase=bad),
+                lambda: next(shamir.decrypt_rounds(ENCRYPTED[0][1], passphrase=bad)),
             ]:
                 with self.assertRaises(ValueError) as raised:
                     call()
@@ -931,6 +992,7 @@ class WorkedExamples(unittest.TestCase):
         self.assertEqual(library.shamir_recover(None, 0, None, 0, 0, None, 0, None, 0).code, 29)
         self.assertEqual(library.shamir_encrypted(None, 0, shamir._Parameters(), None, 0).code, 29)
         self.assertEqual(library.shamir_decrypt(shamir._Parameters(), None, 0, None, 0, None, 0, None, 0).code, 42)
+        self.assertEqual(library.shamir_decrypt_round(shamir._Parameters(), 0, None, 0, None, 0, None, 0).code, 42)
         self.assertEqual(library.shamir_version(None, 0).first, 5)
         self.assertEqual(library.shamir_random_needed(None, 0, 16).code, 31)
         self.assertEqual(library.shamir_parse(None, 0, shamir._Share(), None, 0).code, 12)

@@ -6,8 +6,8 @@ use shamir::{
     CreateOptions, DecryptOptions, Drill, EncryptedSecret, Error, Found, Plan, RecoverOptions, Secret, ShareFields, Status,
 };
 use shamir::{
-    create, create_from_encrypted, create_with, decrypt, encrypted, fingerprint, judge, parse, recover, reissue, repair, resplit,
-    status, words,
+    create, create_from_encrypted, create_with, decrypt, decrypt_round, encrypted, fingerprint, judge, parse, recover, reissue,
+    repair, resplit, status, words,
 };
 use std::fmt::Write;
 use std::io::{self, BufRead};
@@ -140,6 +140,11 @@ fn answer(command: &str, values: &[Value]) -> Result<String, Error> {
         ("encrypted", [lines]) => Ok(kept(&encrypted(lines)?)),
         ("decrypt", [id, extendable, exponent, passphrase, _, value]) => {
             decrypted(&encrypted_secret(id, extendable, exponent, value)?, passphrase, &values[4])
+        }
+        ("decrypt_round", [round, id, extendable, exponent, passphrase, value]) => {
+            let round = u8::try_from(number(round)).expect("a byte");
+            let text = decrypt_round(&encrypted_secret(id, extendable, exponent, value)?, round, passphrase)?;
+            Ok(format!("{}\n", hex(text.as_bytes())))
         }
         ("create_from_encrypted", [plan, id, extendable, exponent, random, value]) => {
             let secret = encrypted_secret(id, extendable, exponent, value)?;

@@ -156,3 +156,68 @@ pub fn decrypt(encrypted: &EncryptedSecret, options: &DecryptOptions<'_>) -> Res
     let parameters = encrypted.parameters();
     Secret::written_by(|room| ffi::decrypt(&parameters, encrypted.value.as_bytes(), options.passphrase, options.expected, room))
 }
+
+/// Undoes one of the four rounds of the cipher, and gives the text.
+///
+/// The rounds 3, 2, 1 and 0, in this order and each with the text of the one before as the value, give the secret that [`decrypt`] gives.
+/// A call takes a quarter of its iterations. [`decrypt_rounds`] makes all four.
+///
+/// Gives the first of these errors that applies: [`Error::OutOfRange`] (an identifier above 32767, an exponent above 15, or a round above
+/// 3), [`Error::Passphrase`].
+///
+/// ```
+/// use shamir::{Error, decrypt_round, encrypted};
+///
+/// # fn main() -> Result<(), Error> {
+/// # let line = "duckling enlarge academic academic agency result length solution fridge kidney coal piece deal husband erode duke ajar critical decision keyboard";
+/// let mut text = encrypted(line)?;
+/// for round in [3, 2, 1, 0] {
+///     text.value = decrypt_round(&text, round, "TREZOR")?;
+/// }
+/// assert_eq!(text.value.as_bytes()[..4], [0xbb, 0x54, 0xaa, 0xc4]);
+/// assert_eq!(decrypt_round(&text, 4, "TREZOR"), Err(Error::OutOfRange));
+/// # Ok(())
+/// # }
+/// ```
+pub fn decrypt_round(encrypted: &EncryptedSecret, round: u8, passphrase: impl AsRef<[u8]>) -> Result<Secret, Error> {
+    let parameters = encrypted.parameters();
+    Secret::written_by(|room| ffi::decrypt_round(&parameters, round, encrypted.value.as_bytes(), passphrase.as_ref(), room))
+}
+
+/// Decrypts what [`encrypted`] gave round by round, so that a program can show how far it is, and stop.
+///
+/// After each of the first three rounds, the closure gets how many of the four are undone, and says whether to go on. If it stops, there
+/// is no secret. The texts between the rounds are cleared. No fingerprint is compared: compare that of the secret
+/// ([`fingerprint`](crate::fingerprint)).
+///
+/// Gives the errors of [`decrypt_round`].
+///
+/// ```
+/// use shamir::{decrypt_rounds, encrypted};
+///
+/// # fn main() -> Result<(), shamir::Error> {
+/// # let line = "duckling enlarge academic academic agency result length solution fridge kidney coal piece deal husband erode duke ajar critical decision keyboard";
+/// let kept = encrypted(line)?;
+/// let secret = decrypt_rounds(&kept, "TREZOR", |undone| {
+///     println!("{undone} of 4");
+///     true
+/// })?;
+/// assert_eq!(secret.map(|secret| secret.as_bytes()[0]), Some(0xbb));
+/// assert_eq!(decrypt_rounds(&kept, "TREZOR", |_| false)?, None);
+/// # Ok(())
+/// # }
+/// ```
+pub fn decrypt_rounds(
+    encrypted: &EncryptedSecret,
+    passphrase: impl AsRef<[u8]>,
+    mut go_on: impl FnMut(u8) -> bool,
+) -> Result<Option<Secret>, Error> {
+    let mut text = decrypt_round(encrypted, 3, &passphrase)?;
+    for round in [2, 1, 0] {
+        if !go_on(3 - round) {
+            return Ok(None);
+        }
+        text = decrypt_round(&EncryptedSecret { value: text, ..*encrypted }, round, &passphrase)?;
+    }
+    Ok(Some(text))
+}

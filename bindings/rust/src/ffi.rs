@@ -95,6 +95,16 @@ unsafe extern "C" {
         secret: *mut u8,
         secret_bytes: usize,
     ) -> Answer;
+    fn shamir_decrypt_round(
+        parameters: *const Parameters,
+        round: u8,
+        encrypted: *const u8,
+        encrypted_bytes: usize,
+        passphrase: *const c_char,
+        passphrase_bytes: usize,
+        undone: *mut u8,
+        undone_bytes: usize,
+    ) -> Answer;
     fn shamir_status(lines: *const c_char, lines_bytes: usize, text: *mut c_char, text_bytes: usize) -> Answer;
     fn shamir_judge(
         lines: *const c_char,
@@ -253,6 +263,23 @@ pub(crate) fn decrypt(parameters: &Parameters, encrypted: &[u8], passphrase: &[u
             passphrase_bytes,
             expected,
             expected_bytes,
+            room.as_mut_ptr(),
+            room.len(),
+        )
+    }
+}
+
+pub(crate) fn decrypt_round(parameters: &Parameters, round: u8, encrypted: &[u8], passphrase: &[u8], room: &mut [u8]) -> Answer {
+    let (passphrase, passphrase_bytes) = of(passphrase);
+    // SAFETY: "An output buffer or an output struct must not overlap any other argument."
+    unsafe {
+        shamir_decrypt_round(
+            parameters,
+            round,
+            encrypted.as_ptr(),
+            encrypted.len(),
+            passphrase,
+            passphrase_bytes,
             room.as_mut_ptr(),
             room.len(),
         )

@@ -40,9 +40,9 @@
 //! # Without an allocator
 //!
 //! The crate uses neither `std` nor another crate. Without the feature `alloc`, which is on by default, it uses no allocator
-//! of Rust either. Then there are [`parse`], [`judge()`], [`recover()`], [`encrypted()`], [`decrypt`], [`status()`], [`quorums()`],
-//! [`fingerprint`], [`version()`], and the calls that write into the caller's room: [`create_into`], [`reissue_into`],
-//! [`resplit_into`], [`create_from_encrypted_into`], [`repair_into`] and [`words_into`].
+//! of Rust either. Then there are [`parse`], [`judge()`], [`recover()`], [`encrypted()`], [`decrypt`], [`decrypt_round`],
+//! [`decrypt_rounds`], [`status()`], [`quorums()`], [`fingerprint`], [`version()`], and the calls that write into the caller's
+//! room: [`create_into`], [`reissue_into`], [`resplit_into`], [`create_from_encrypted_into`], [`repair_into`] and [`words_into`].
 //!
 //! # The library
 //!
@@ -104,7 +104,7 @@ pub use create::{create, create_with};
 pub use details::{Counts, Mismatch};
 #[cfg(feature = "alloc")]
 pub use drill::{Drill, Found, Names, Outcome};
-pub use encrypted::{DecryptOptions, EncryptedSecret, decrypt, encrypted};
+pub use encrypted::{DecryptOptions, EncryptedSecret, decrypt, decrypt_round, decrypt_rounds, encrypted};
 pub use error::Error;
 pub use from_encrypted::create_from_encrypted_into;
 #[cfg(feature = "alloc")]

@@ -9,8 +9,9 @@ use given::{
 use shamir::{CreateOptions, DecryptOptions, Drill, EncryptedSecret, Error, Found, Mismatch};
 use shamir::{Mnemonics, Name, Outcome, Plan, RecoverOptions, Secret};
 use shamir::{
-    create, create_from_encrypted, create_from_encrypted_with, create_into, create_with, decrypt, encrypted, fingerprint, parse,
-    quorums, recover, reissue, reissue_into, repair, repair_into, resplit, resplit_with, status, words,
+    create, create_from_encrypted, create_from_encrypted_with, create_into, create_with, decrypt, decrypt_round, decrypt_rounds,
+    encrypted, fingerprint, parse, quorums, recover, reissue, reissue_into, repair, repair_into, resplit, resplit_with, status,
+    words,
 };
 
 /// The fingerprint of the secret of `ONE`. It is the HMAC-SHA256 by another program.
@@ -153,6 +154,38 @@ fn a_decrypted_secret_is_compared() {
     let options = DecryptOptions::new().passphrase("TREZOR");
     assert_eq!(decrypt(&kept, &options.expected("df41d8fe")).unwrap(), secret(ONE_SECRET));
     assert_eq!(decrypt(&kept, &options.expected("df41d8ff")).unwrap_err(), Error::OtherSecret);
+}
+
+/// The texts that the rounds 3 to 0 leave of the encrypted secret of `FIVE`, and of that of `EXTENDABLE`. Another program computed them.
+const UNDONE: [[&str; 4]; 2] = [
+    ["04447ff0a4a32f695ba74e3c43bc2c75", "5ba74e3c43bc2c757b3377e2884ece1f", "7b3377e2884ece1fba37d9cc21b2cece", ONE_SECRET],
+    [
+        "92f06fff3ed8b3e1cbed64bd59fb2d4e",
+        "cbed64bd59fb2d4eff09ffde7df70e2f",
+        "ff09ffde7df70e2fd42c33672bdaa428",
+        "48b1a4b80b8c209ad42c33672bdaa428",
+    ],
+];
+
+#[test]
+fn rounds_are_undone() {
+    for (lines, texts) in [&FIVE[3..], &EXTENDABLE[..]].into_iter().zip(UNDONE) {
+        let kept = encrypted(lines.join("\n")).unwrap();
+        let mut text = kept.clone();
+        for (round, right) in (0..4).rev().zip(texts) {
+            text.value = decrypt_round(&text, round, "TREZOR").unwrap();
+            assert_eq!(text.value, secret(right));
+        }
+        let mut told = vec![];
+        let found = decrypt_rounds(&kept, "TREZOR", |undone| {
+            told.push(undone);
+            true
+        });
+        assert_eq!((found.unwrap(), told.as_slice()), (Some(text.value), &[1, 2, 3][..]));
+        for most in 1..4 {
+            assert_eq!(decrypt_rounds(&kept, "TREZOR", |undone| undone < most).unwrap(), None);
+        }
+    }
 }
 
 #[test]

@@ -93,7 +93,8 @@ mod in_heap {
     use given::{FIVE, ONE, TWO_RANDOM, bytes};
     use shamir::{
         CreateOptions, DecryptOptions, Drill, Error, Mnemonics, Papers, RecoverOptions, Secret, create,
-        create_from_encrypted_with, create_with, decrypt, encrypted, judge, parse, recover, reissue, repair, resplit_with,
+        create_from_encrypted_with, create_with, decrypt, decrypt_rounds, encrypted, judge, parse, recover, reissue, repair,
+        resplit_with,
     };
 
     fn trezor() -> RecoverOptions<'static> {
@@ -105,6 +106,8 @@ mod in_heap {
         assert_eq!(left_by(|| recover(ONE, &trezor()).unwrap()), 0);
         assert_eq!(left_by(|| parse(ONE).unwrap().clone()), 0);
         assert_eq!(left_by(|| decrypt(&encrypted(ONE).unwrap(), &DecryptOptions::new().passphrase("TREZOR")).unwrap()), 0);
+        let kept = encrypted(ONE).unwrap();
+        assert_eq!(left_by(|| decrypt_rounds(&kept, "TREZOR", |_| true).unwrap()), 0);
     }
 
     #[test]

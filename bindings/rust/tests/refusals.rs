@@ -85,6 +85,11 @@ fn decrypt(id: u16, exponent: u8, options: &DecryptOptions<'_>) -> Error {
     shamir::decrypt(&EncryptedSecret { id, extendable: false, exponent, value }, options).unwrap_err()
 }
 
+fn decrypt_round(id: u16, round: u8, passphrase: &str) -> Error {
+    let value = Secret::new(&bytes("11bc609d21747c49ba78c0701293e417")).unwrap();
+    shamir::decrypt_round(&EncryptedSecret { id, extendable: false, exponent: 0, value }, round, passphrase).unwrap_err()
+}
+
 /// Gives the refusals: what a call gives, what is right, the code, and the text after the code.
 fn refusals() -> Vec<(Error, Error, u32, &'static str)> {
     let (none, room) = (CreateOptions::new(), &mut [0; 8]);
@@ -214,6 +219,9 @@ fn refusals() -> Vec<(Error, Error, u32, &'static str)> {
             "passphrase byte 2 not printable",
         ),
         (decrypt(7945, 0, &DecryptOptions::new().expected("df41d8fe")), Error::OtherSecret, 52, "other secret"),
+        (decrypt_round(32768, 3, "a\x07"), Error::OutOfRange, 2, "number out of range"),
+        (decrypt_round(7945, 4, "a\x07"), Error::OutOfRange, 2, "number out of range"),
+        (decrypt_round(7945, 3, "a\x07"), Error::Passphrase { position: 2 }, 41, "passphrase byte 2 not printable"),
         (resplit(PLAN, &["x"], &[]), Error::UnknownWord { line: Some(1), position: 1 }, 11, "unknown word 1"),
         (resplit(PLAN, &[], &[]), Error::NoShares, 29, "no shares"),
         (resplit(PLAN, &FIVE[3..4], &[]), Error::Incomplete { complete: 1, required: 2 }, 30, "incomplete: 1 of 2 groups"),

@@ -4,7 +4,7 @@ mod given;
 use given::{EXTENDABLE, FIVE, FOURTH, ONE, ONE_SECRET, SPLIT_ANEW, TWO, TWO_RANDOM, TWO_SECRET, bytes};
 use shamir::{CreateOptions, DecryptOptions, Error, Plan, RecoverOptions, Secret, Share, ShareFields};
 use shamir::{REPAIRED_BYTES_MAX, create_from_encrypted_into, create_into, reissue_into, repair_into, resplit_into, words_into};
-use shamir::{decrypt, encrypted, fingerprint, judge, parse, recover, status};
+use shamir::{decrypt, decrypt_rounds, encrypted, fingerprint, judge, parse, recover, status};
 
 fn plan(text: &str) -> Plan {
     text.parse().unwrap()
@@ -28,6 +28,7 @@ fn an_encrypted_secret_is_decrypted() {
     assert_eq!(kept.value.as_bytes(), bytes("cdc017fddc829e791b1371780be0605a"));
     let options = DecryptOptions::new().passphrase("TREZOR").expected("5f5702dc");
     assert_eq!(decrypt(&kept, &options), Ok(Secret::new(&bytes(TWO_SECRET)).unwrap()));
+    assert_eq!(decrypt_rounds(&kept, "TREZOR", |_| true), Ok(Some(Secret::new(&bytes(TWO_SECRET)).unwrap())));
     assert_eq!(encrypted(TWO[0]), Err(Error::Incomplete { complete: 0, required: 1 }));
 }
 

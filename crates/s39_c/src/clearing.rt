@@ -25,6 +25,8 @@ pub(crate) const ENCRYPTED: usize = 256 * KIB;
 
 pub(crate) const DECRYPT: usize = 16 * KIB;
 
+pub(crate) const DECRYPT_ROUND: usize = 16 * KIB;
+
 pub(crate) const RESPLIT: usize = 256 * KIB;
 
 pub(crate) const RECOVER: usize = 264 * KIB;

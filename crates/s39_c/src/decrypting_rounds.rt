@@ -5,7 +5,7 @@ ghost use Rattle.s39_c.specs.Encrypted.{GivesDecryption};
 ghost use Rattle.s39_c.specs.Rounds.{GivesDecryptedRound, IsRound};
 
 use crate::answer::ShamirAnswer;
-use crate::clearing::DECRYPT;
+use crate::clearing::DECRYPT_ROUND;
 use crate::decrypting::params_of;
 use crate::encrypted::ShamirParameters;
 use crate::memory::give;
@@ -43,7 +43,7 @@ pub extern "C" fn shamir_decrypt_round(
     ensures { GivesDecryptedRound parameters.now round encrypted.now passphrase.now undone.old undone.new result }
 {
     let answer = round_answer(parameters, round, encrypted, passphrase, undone);
-    let _ = clear_stack::<DECRYPT>();
+    let _ = clear_stack::<DECRYPT_ROUND>();
     answer
 }
 

@@ -8,7 +8,7 @@ use shamir::{Drill, EncryptedSecret, Error, Plan, RecoverOptions, Secret};
 fn call(which: u8, text: &[u8], lines: &[u8]) -> Result<(), Error> {
     let options = RecoverOptions::new().passphrase(text).max_exponent(0);
     let plan = || String::from_utf8_lossy(text).parse::<Plan>();
-    match which % 14 {
+    match which % 15 {
         0 => shamir::parse(lines).map(drop),
         1 => shamir::recover(lines, &options).map(drop),
         2 | 3 => shamir::encrypted(lines).map(drop),
@@ -22,6 +22,10 @@ fn call(which: u8, text: &[u8], lines: &[u8]) -> Result<(), Error> {
             let value = Secret::new(&lines[..lines.len().min(16)])?;
             let secret = EncryptedSecret { id: 1, extendable: true, exponent: 0, value };
             shamir::create_from_encrypted(&plan()?, &secret, &lines[..lines.len().min(14)]).map(drop)
+        }
+        13 => {
+            let kept = EncryptedSecret { id: 1, extendable: false, exponent: 0, value: Secret::new(lines)? };
+            shamir::decrypt_round(&kept, (lines.len() % 5) as u8, text).map(drop)
         }
         _ => Ok(drop(shamir::words(text))),
     }
