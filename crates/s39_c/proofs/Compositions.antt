@@ -23,7 +23,7 @@ use Rattle.s39_input.specs.declared.fault.Fault.{Fault}
 use Rattle.s39_input.specs.Accepted.{IsReadAs}
 use Rattle.s39_input.specs.Fault.{cause_of, fault_of, fault_of_stop, fault_of_resplit}
 use Rattle.s39_input.specs.Input.{Input, whole}
-use Rattle.s39_input.specs.Steps.{Then, gives, refuses}
+use Rattle.s39_input.specs.Steps.{gives, refuses}
 use Rattle.s39_creating.specs.Reissue.{AreWritten}
 use Rattle.s39_creating.specs.Resplit.{AreFromEncrypted, IsOutputFromEncrypted, IsResplitOutput, IsSplitFrom, IsSplitOf}
 use Rattle.s39_reading.specs.Encrypted.{IsEncryptedIn, IsEncryptedOf}
