@@ -1,9 +1,11 @@
 //! The worked examples of `create`, from the command line to the mnemonics or the message, and the status.
 
+use crate::expected::{expect_lines, expect_refusal};
+use s39_expect::equal;
 use s39_fixtures::{
     EXTENDABLE_ONE_OF_ONE, FIVE, LONGEST_ONE_OF_ONE, LONGEST_ONE_OF_ONE_SECRET, ONE_OF_ONE,
-    ONE_OF_ONE_256_BITS, ONE_OF_ONE_SECRET, RANDOM, RECOVER, SECRET, SHOW, create, expect_bytes,
-    expect_run, lines, run_on,
+    ONE_OF_ONE_256_BITS, RANDOM, RECOVER, SECRET, SHOW, create, expect_bytes, expect_run, lines,
+    run_on,
 };
 use sha2::{Digest, Sha256};
 use std::test::Fail;
@@ -46,8 +48,7 @@ fn creates_what_each_quorum_recovers(rt: HostRuntime) -> Result<(), Fail> {
         &[d, e],
     ];
     for quorum in quorums {
-        let input = lines(alloc, quorum)?;
-        expect_run(&RECOVER, input.as_str(), alloc, (ONE_OF_ONE_SECRET, "", 0))?;
+        expect_lines(alloc, &RECOVER, quorum, &[SECRET])?;
     }
     Ok(())
 }
@@ -67,8 +68,7 @@ fn refuses_plans(rt: HostRuntime) -> Result<(), Fail> {
         ("16of16", "43 random bytes: 238 needed"),
     ];
     for (plan, text) in cases {
-        let message = format!(in alloc; "shamir: {text}\n")?;
-        expect_run(&create(plan, SECRET), "", alloc, ("", message.as_str(), 1))?;
+        expect_refusal(alloc, &create(plan, SECRET), "", text)?;
     }
     Ok(())
 }
@@ -86,14 +86,15 @@ fn refuses_secrets_and_passphrases(rt: HostRuntime) -> Result<(), Fail> {
         expect_run(&create(plan, secret), "", alloc, ("", no_hex, 2))?;
     }
     let short = &SECRET[..28];
-    for (secret, bytes) in [
-        (short, 14),
-        ("", 0),
-        ("00112233445566778899aabbccddeeff00", 17),
+    for (secret, refusal) in [
+        (short, "42 secret of 14 bytes"),
+        ("", "42 secret of 0 bytes"),
+        (
+            "00112233445566778899aabbccddeeff00",
+            "42 secret of 17 bytes",
+        ),
     ] {
-        let message = format!(in alloc; "shamir: 42 secret of {bytes} bytes\n")?;
-        let wanted = ("", message.as_str(), 1);
-        expect_run(&create("1of1", secret), "", alloc, wanted)?;
+        expect_refusal(alloc, &create("1of1", secret), "", refusal)?;
     }
     let unprintable = [
         "shamir",
@@ -104,15 +105,19 @@ fn refuses_secrets_and_passphrases(rt: HostRuntime) -> Result<(), Fail> {
         "--passphrase",
         "a\x07",
     ];
-    let message = "shamir: 41 passphrase byte 2 not printable\n";
-    expect_run(&unprintable, "", alloc, ("", message, 1))
+    expect_refusal(
+        alloc,
+        &unprintable,
+        "",
+        "41 passphrase byte 2 not printable",
+    )
 }
 
 #[test]
 fn creates_extendable_backups(rt: HostRuntime) -> Result<(), Fail> {
     let alloc = rt.alloc();
     let recovered = run_on(alloc, &RECOVER, EXTENDABLE_ONE_OF_ONE.as_bytes());
-    assert_eq!(rt; (recovered.status, recovered.written.len()), (0, 33));
+    equal(&rt, (recovered.status, recovered.written.len()), (0, 33));
     let secret = std::str::from_utf8(recovered.written.as_slice())?.trim_end();
     let words = [
         "shamir",
@@ -131,7 +136,7 @@ fn creates_extendable_backups(rt: HostRuntime) -> Result<(), Fail> {
         expect_bytes(&words, &random, alloc, (wanted.as_str(), "", 0))?;
     }
     let other = run_on(alloc, &words, &[0, 0]);
-    assert_eq!(rt; other.status, 0);
+    equal(&rt, other.status, 0);
     let shown =
         "identifier 0 extendable 1 exponent 3 group 0 group-threshold 1 group-count 1 member 0 member-threshold 1 value 9e8773c7313b11d3bfe219291976433b\n";
     expect_bytes(&SHOW, other.written.as_slice(), alloc, (shown, "", 0))
@@ -145,7 +150,7 @@ fn creates_the_longest_secret(rt: HostRuntime) -> Result<(), Fail> {
     let created = run_on(alloc, &words, &[0, 0]);
     let mnemonic = created.written.as_slice();
     let spaces = mnemonic.iter().filter(|byte| **byte == b' ').count();
-    assert_eq!(rt; (created.status, spaces), (0, 109));
+    equal(&rt, (created.status, spaces), (0, 109));
     let secret = lines(alloc, &[zeros.as_str()])?;
     let wanted = (secret.as_str(), "", 0);
     expect_bytes(&RECOVER, mnemonic, alloc, wanted)
@@ -172,10 +177,11 @@ fn creates_the_most_mnemonics(rt: HostRuntime) -> Result<(), Fail> {
         random.push(((7 * i + 3) % 256) as u8)?;
     }
     let created = run_on(alloc, &words, random.as_slice());
-    assert_eq!(rt; (created.status, created.told.is_empty()), (0, true));
-    assert_eq!(rt;
+    equal(&rt, (created.status, created.told.is_empty()), (0, true));
+    equal(
+        &rt,
         Sha256::digest(created.written.as_slice()),
-        MOST_LINES_DIGEST
+        MOST_LINES_DIGEST,
     );
     random.pop();
     let message = "shamir: 43 random bytes: 32574 needed\n";

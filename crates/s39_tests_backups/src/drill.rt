@@ -1,6 +1,7 @@
 //! The worked examples of `drill`, from the command line to the lines and the status.
 
 use crate::create::MOST;
+use s39_expect::equal;
 use s39_fixtures::{
     DRILL, FIVE, ONE_OF_ONE, ONE_OF_ONE_SECRET, QUORUMS_OF_FIVE, RANDOM, SECRET,
     TWO_NEEDED_MEMBER_0, TWO_NEEDED_MEMBER_2, create, expect_bytes, expect_run, forged, lines,
@@ -10,12 +11,17 @@ use std::alloc::{AllocError, Global};
 use std::process::Abort;
 use std::test::Fail;
 
-/// The words of a drill with these options.
-fn drill<'a>(alloc: Global, options: &[&'a str]) -> Result<Vec<&'a str>, AllocError> {
+/// Runs a drill with these options, and compares its output, its message and its status.
+fn expect_drill(
+    alloc: Global,
+    options: &[&str],
+    input: &[u8],
+    wanted: (&str, &str, u8),
+) -> Result<(), Fail> {
     let mut words = Vec::new(alloc);
     words.extend_from_slice(&DRILL)?;
     words.extend_from_slice(options)?;
-    Ok(words)
+    expect_bytes(&words, input, alloc, wanted)
 }
 
 #[test]
@@ -39,8 +45,7 @@ fn lists_quorums(rt: HostRuntime) -> Result<(), Fail> {
     for input in [[a, b, c, d, e], [e, c, a, d, b]] {
         let input = lines(alloc, &input)?;
         for (options, output) in cases {
-            let words = drill(alloc, options)?;
-            expect_run(&words, input.as_str(), alloc, (output, "", 0))?;
+            expect_drill(alloc, options, input.as_bytes(), (output, "", 0))?;
         }
     }
     Ok(())
@@ -107,8 +112,7 @@ fn lists_quorums_of_the_vectors(rt: HostRuntime) -> Result<(), Fail> {
         ),
     ];
     for (options, input, output) in cases {
-        let words = drill(alloc, options)?;
-        expect_run(&words, input, alloc, (output, "", 0))?;
+        expect_drill(alloc, options, input.as_bytes(), (output, "", 0))?;
     }
     Ok(())
 }
@@ -146,8 +150,7 @@ fn compares_with_an_expected_fingerprint(rt: HostRuntime) -> Result<(), Fail> {
         ),
     ];
     for (options, output, status) in cases {
-        let words = drill(alloc, options)?;
-        expect_run(&words, input.as_str(), alloc, (output, "", status))?;
+        expect_drill(alloc, options, input.as_bytes(), (output, "", status))?;
     }
     // The passphrase is forgotten.
     let forgotten = ["shamir", "drill", "--expect=df41d8fe"];
@@ -165,8 +168,8 @@ fn tells_expected_secrets_from_others(rt: HostRuntime) -> Result<(), Fail> {
         ("df41d8fe", "0.0 as expected\n1.0 other secret\nend\n"),
         ("73aeb1c0", "0.0 other secret\n1.0 as expected\nend\n"),
     ] {
-        let words = drill(alloc, &["--expect", digits])?;
-        expect_run(&words, groups.as_str(), alloc, (output, "", 1))?;
+        let options = ["--expect", digits];
+        expect_drill(alloc, &options, groups.as_bytes(), (output, "", 1))?;
     }
     Ok(())
 }
@@ -182,9 +185,9 @@ fn refuses_what_is_no_fingerprint(rt: HostRuntime) -> Result<(), Fail> {
         " df41d8f",
         "0xdf41d8",
     ] {
-        let words = drill(alloc, &["--expect", digits])?;
+        let options = ["--expect", digits];
         let refusal = ("", "shamir: 44 bad fingerprint\n", 1);
-        expect_run(&words, ONE_OF_ONE, alloc, refusal)?;
+        expect_drill(alloc, &options, ONE_OF_ONE.as_bytes(), refusal)?;
     }
     Ok(())
 }
@@ -209,8 +212,7 @@ fn refuses_what_cannot_be_drilled(rt: HostRuntime) -> Result<(), Fail> {
         (&[], "", "shamir: 29 no shares\n"),
     ];
     for (options, input, message) in cases {
-        let words = drill(alloc, options)?;
-        expect_run(&words, input, alloc, ("", message, 1))?;
+        expect_drill(alloc, options, input.as_bytes(), ("", message, 1))?;
     }
     Ok(())
 }
@@ -236,13 +238,7 @@ fn names_digests_that_differ(rt: HostRuntime) -> Result<(), Fail> {
         ),
     ];
     for (plan, random, flips, output) in cases {
-        let created = created(&rt, alloc, &create(plan, SECRET), random);
-        let created = std::str::from_utf8(created.as_slice())?;
-        let mut input = Vec::new(alloc);
-        for (mnemonic, flip) in created.lines().zip(flips) {
-            input.extend_from_slice(forged(mnemonic, *flip)?.as_slice())?;
-            input.push(b'\n')?;
-        }
+        let input = created_and_forged(&rt, alloc, plan, random, flips)?;
         expect_bytes(&DRILL, input.as_slice(), alloc, (output, "", 1))?;
     }
     Ok(())
@@ -251,27 +247,45 @@ fn names_digests_that_differ(rt: HostRuntime) -> Result<(), Fail> {
 #[test]
 fn names_digests_that_differ_beside_expected_secrets(rt: HostRuntime) -> Result<(), Fail> {
     let alloc = rt.alloc();
-    let created = created(&rt, alloc, &create("1/2of2,2of2", SECRET), &RANDOM);
+    let input = created_and_forged(&rt, alloc, "1/2of2,2of2", &RANDOM, &[0, 0, 0xFF, 0xFE])?;
+    for (digits, output) in [
+        (
+            "df41d8fe",
+            "0.0+0.1 as expected\n1.0+1.1 digest mismatch in group 1\nend\n",
+        ),
+        (
+            "df41d8ff",
+            "0.0+0.1 other secret\n1.0+1.1 digest mismatch in group 1\nend\n",
+        ),
+    ] {
+        let options = ["--expect", digits];
+        expect_drill(alloc, &options, input.as_slice(), (output, "", 1))?;
+    }
+    Ok(())
+}
+
+/// What a creation by this plan writes, with the bits of `flips` changed in the first byte of the value of each mnemonic.
+fn created_and_forged(
+    rt: &impl Abort,
+    alloc: Global,
+    plan: &str,
+    random: &[u8],
+    flips: &[u8],
+) -> Result<Vec<u8>, Fail> {
+    let created = created(rt, alloc, &create(plan, SECRET), random);
     let created = std::str::from_utf8(created.as_slice())?;
     let mut input = Vec::new(alloc);
-    for (mnemonic, flip) in created.lines().zip(&[0, 0, 0xFF, 0xFE]) {
+    for (mnemonic, flip) in created.lines().zip(flips) {
         input.extend_from_slice(forged(mnemonic, *flip)?.as_slice())?;
         input.push(b'\n')?;
     }
-    for (digits, told) in [("df41d8fe", "as expected"), ("df41d8ff", "other secret")] {
-        let words = drill(alloc, &["--expect", digits])?;
-        let output = format!(in alloc;
-            "0.0+0.1 {told}\n1.0+1.1 digest mismatch in group 1\nend\n"
-        )?;
-        expect_bytes(&words, input.as_slice(), alloc, (output.as_str(), "", 1))?;
-    }
-    Ok(())
+    Ok(input)
 }
 
 /// What a creation writes.
 fn created(rt: &impl Abort, alloc: Global, words: &[&str], random: &[u8]) -> Vec<u8> {
     let created = run_on(alloc, words, random);
-    assert_eq!(rt; created.status, 0);
+    equal(rt, created.status, 0);
     created.written
 }
 
@@ -317,8 +331,6 @@ fn drills_a_part_of_very_many_quorums(rt: HostRuntime) -> Result<(), Fail> {
         output.push_str(format!(in alloc; "{all_but_last}{last} {SECRET}\n")?.as_str())?;
     }
     output.push_str(format!(in alloc; "more after {all_but_last}9\n")?.as_str())?;
-    let words = drill(alloc, &["--limit", "3"])?;
     let wanted = (output.as_str(), "", 0);
-    expect_bytes(&words, input.as_slice(), alloc, wanted)?;
-    Ok(())
+    expect_drill(alloc, &["--limit", "3"], input.as_slice(), wanted)
 }

@@ -1,5 +1,6 @@
 //! A backup with an exponent above 3, and a drill of more quorums than it lists by itself.
 
+use s39_expect::{equal, holds};
 use s39_fixtures::{SECRET, run_on};
 use sha2::{Digest, Sha256};
 use std::test::Fail;
@@ -41,17 +42,21 @@ fn drills_more_than_a_thousand_quorums(rt: HostRuntime) -> Result<(), Fail> {
         random.push(byte)?;
     }
     let created = run_on(alloc, &CREATE, random.as_slice());
-    assert_eq!(rt; (created.status, created.told.is_empty()), (0, true));
-    assert_eq!(rt; Sha256::digest(created.written.as_slice()), LINES_DIGEST);
+    equal(&rt, (created.status, created.told.is_empty()), (0, true));
+    equal(
+        &rt,
+        Sha256::digest(created.written.as_slice()),
+        LINES_DIGEST,
+    );
     let drilled = run_on(alloc, &DRILL, created.written.as_slice());
-    assert_eq!(rt; (drilled.status, drilled.told.is_empty()), (0, true));
+    equal(&rt, (drilled.status, drilled.told.is_empty()), (0, true));
     let written = std::str::from_utf8(drilled.written.as_slice())?;
     let recovered = written
         .lines()
         .filter(|line| line.ends_with(SECRET))
         .count();
-    assert_eq!(rt; (recovered, written.lines().count()), (3640, 3641));
+    equal(&rt, (recovered, written.lines().count()), (3640, 3641));
     let last = format!(in alloc; "\n1.12+1.13+1.14+1.15 {SECRET}\nend\n")?;
-    assert!(rt; written.ends_with(last.as_str()));
+    holds(&rt, written.ends_with(last.as_str()));
     Ok(())
 }

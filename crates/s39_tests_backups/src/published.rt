@@ -1,5 +1,6 @@
 //! The vectors published for SLIP-0039, through `recover` and `drill`, with their mnemonics in both orders.
 
+use s39_expect::equal;
 use s39_fixtures::{DRILL, RECOVER, expect_run};
 use std::alloc::{AllocError, Global};
 use std::process::Abort;
@@ -243,7 +244,7 @@ fn expect_outcomes(rt: &impl Abort, alloc: Global, command: Command) -> Result<(
         expect_run(&words, mnemonics.as_str(), alloc, wanted)?;
         count = count.saturating_add(1);
     }
-    assert_eq!(rt; count, 45);
+    equal(rt, count, 45);
     Ok(())
 }
 

@@ -1,5 +1,6 @@
 //! The worked examples of `recover`, from the command line to the secret or the message, and the status.
 
+use s39_expect::{equal, holds};
 use s39_fixtures::{
     EXTENDABLE_ONE_OF_ONE, LONGEST_ONE_OF_ONE, LONGEST_ONE_OF_ONE_SECRET, ONE_OF_ONE,
     ONE_OF_ONE_256_BITS, ONE_OF_ONE_EXTENDABLE_MEMBER_1, ONE_OF_ONE_SECRET, RECOVER,
@@ -151,9 +152,12 @@ fn takes_a_passphrase(rt: HostRuntime) -> Result<(), Fail> {
         ["shamir", "recover"].as_slice(),
     ] {
         let other = run_on(alloc, words, ONE_OF_ONE.as_bytes());
-        assert_eq!(rt; (other.status, other.told.is_empty()), (0, true));
-        assert_eq!(rt; other.written.len(), ONE_OF_ONE_SECRET.len());
-        assert!(rt; other.written.as_slice() != ONE_OF_ONE_SECRET.as_bytes());
+        equal(&rt, (other.status, other.told.is_empty()), (0, true));
+        equal(&rt, other.written.len(), ONE_OF_ONE_SECRET.len());
+        holds(
+            &rt,
+            other.written.as_slice() != ONE_OF_ONE_SECRET.as_bytes(),
+        );
     }
     Ok(())
 }

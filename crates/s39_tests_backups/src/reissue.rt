@@ -1,6 +1,8 @@
 //! The worked examples of `status` and `reissue`, from the command line to the lines, the message and the status.
 
 use crate::create::MOST;
+use crate::expected::{expect_lines, expect_refused_lines};
+use s39_expect::equal;
 use s39_fixtures::{FIVE, SECRET, create, expect_bytes, expect_run, forged, lines, run_on};
 use sha2::{Digest, Sha256};
 use std::test::Fail;
@@ -27,10 +29,7 @@ fn writes_lost_mnemonics_again(rt: HostRuntime) -> Result<(), Fail> {
         (PLAN, "0.0+0.1+0.2+1.0+2.0", &[d, c, b], &FIVE),
     ];
     for (plan, names, given, written) in cases {
-        let words = ["shamir", "reissue", plan, names];
-        let input = lines(alloc, given)?;
-        let output = lines(alloc, written)?;
-        expect_run(&words, input.as_str(), alloc, (output.as_str(), "", 0))?;
+        expect_lines(alloc, &["shamir", "reissue", plan, names], given, written)?;
     }
     Ok(())
 }
@@ -73,10 +72,7 @@ fn refuses_what_it_cannot_tell(rt: HostRuntime) -> Result<(), Fail> {
         ("3of3", "0.1", &["# a note"], "29 no shares"),
     ];
     for (plan, names, given, told) in cases {
-        let words = ["shamir", "reissue", plan, names];
-        let input = lines(alloc, given)?;
-        let message = format!(in alloc; "shamir: {told}\n")?;
-        expect_run(&words, input.as_str(), alloc, ("", message.as_str(), 1))?;
+        expect_refused_lines(alloc, &["shamir", "reissue", plan, names], given, told)?;
     }
     Ok(())
 }
@@ -174,7 +170,7 @@ fn tells_what_is_at_hand_of_the_most_mnemonics(rt: HostRuntime) -> Result<(), Fa
     let random = vec![in alloc; 11u8; 4_014]?;
     let created = run_on(alloc, &create(MOST, SECRET), random.as_slice());
     let written = created.written.as_slice();
-    assert_eq!(rt; Sha256::digest(written), MOST_DIGEST);
+    equal(&rt, Sha256::digest(written), MOST_DIGEST);
     let groups = lines(alloc, &WHOLE_GROUPS)?;
     let all = format!(in alloc; "groups 16 of 16\n{groups}")?;
     expect_bytes(&STATUS, written, alloc, (all.as_str(), "", 0))?;

@@ -1,6 +1,7 @@
 //! The worked examples of `repair`, from the command line to the lines, the message and the status. Another program
 //! computed them.
 
+use crate::expected::expect_refusal;
 use s39_fixtures::{
     ONE_OF_ONE, ONE_OF_ONE_BAD_CHECKSUM, ONE_OF_ONE_OF_THE_OTHER_FLAG, ONE_OF_ONE_TWO_WORDS_LOST,
     ONE_OF_ONE_WITHOUT_THE_FLAG, REPAIR, TWO_NEEDED_MEMBER_0, TWO_NEEDED_MEMBER_2, expect_run,
@@ -46,40 +47,39 @@ fn says_why_a_line_has_no_mnemonic(rt: HostRuntime) -> Result<(), Fail> {
     let cases = [
         (
             "duckling enlarge academic academic agency result length solution fridge kidney coal piece deal husband erode duke ? ? ? ?",
-            "19 4 unreadable words: at most 3",
+            "line 1: 19 4 unreadable words: at most 3",
         ),
         (
             "duckling enlarge academic academic ? result solution length fridge kidney coal piece deal husband erode duke ajar critical decision keyboard",
-            "17 no mnemonic has these words",
+            "line 1: 17 no mnemonic has these words",
         ),
         (
             "duckling enlarge academic academic agency result lend solution fridge kidney coal piece deal husband erode duke ajar critical decision keyboard",
-            "18 bad checksum: if one word is wrong, it is word 7",
+            "line 1: 18 bad checksum: if one word is wrong, it is word 7",
         ),
         (
             ONE_OF_ONE_BAD_CHECKSUM,
-            "18 bad checksum: if one word is wrong, it is word 20",
+            "line 1: 18 bad checksum: if one word is wrong, it is word 20",
         ),
         (
             "duckling enlarge academic academic agency result solution length fridge kidney coal piece deal husband erode duke ajar critical decision keyboard",
-            "13 bad checksum",
+            "line 1: 13 bad checksum",
         ),
         (
             "duckling enlarge academic academic agency result ze? solution fridge kidney coal piece deal husband erode duke ajar critical decision keyboard",
-            "18 bad checksum: if one word is wrong, it is word 7",
+            "line 1: 18 bad checksum: if one word is wrong, it is word 7",
         ),
         (
             "duckling enlarge academic academic agency result zz? solution fridge kidney coal piece deal husband erode duke ajar critical decision keyboard",
-            "11 unknown word 7",
+            "line 1: 11 unknown word 7",
         ),
         (
             "duckling enlarge academic academic agency result ?ength solution fridge kidney coal piece deal husband erode duke ajar critical decision keyboard",
-            "11 unknown word 7",
+            "line 1: 11 unknown word 7",
         ),
     ];
     for (line, refusal) in cases {
-        let message = format!(in alloc; "shamir: line 1: {refusal}\n")?;
-        expect_run(&REPAIR, line, alloc, ("", message.as_str(), 1))?;
+        expect_refusal(alloc, &REPAIR, line, refusal)?;
     }
     Ok(())
 }

@@ -2,6 +2,7 @@
 //! mnemonics.
 
 use crate::create::MOST;
+use s39_expect::equal;
 use s39_fixtures::{expect_over, lines, run_over};
 use sha2::{Digest, Sha256};
 use std::test::Fail;
@@ -318,8 +319,8 @@ fn takes_the_most_random_bytes(rt: HostRuntime) -> Result<(), Fail> {
         &words,
         input.as_bytes(),
     );
-    assert_eq!(rt; (run.status, run.told.is_empty()), (0, true));
-    assert_eq!(rt; Sha256::digest(run.written.as_slice()), MOST_DIGEST);
+    equal(&rt, (run.status, run.told.is_empty()), (0, true));
+    equal(&rt, Sha256::digest(run.written.as_slice()), MOST_DIGEST);
     let message = "shamir: 43 random bytes: 32574 needed\n";
     for count in [32_573, 32_575, 40_000] {
         let random = vec![in alloc; 11u8; count]?;

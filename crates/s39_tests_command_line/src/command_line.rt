@@ -1,6 +1,7 @@
 //! The command line.
 
 use s39_command::{Call, Job, NoJob, Texts, read_words};
+use s39_expect::{equal, holds};
 use s39_fixtures::devices::Full;
 use s39_fixtures::{ONE_OF_ONE, WRITE_FAILED_LINE, expect_told, run_on};
 use s39_input::SecretForm;
@@ -42,17 +43,24 @@ pub(crate) fn call<'a>(job: Job<'a>, given: Texts<'a>) -> Call<'a> {
 /// Each of the command lines gives this call.
 pub(crate) fn expect_calls(rt: &impl Abort, alloc: Global, cases: &[(&[&str], Call)]) {
     for (words, call) in cases {
-        assert_eq!(rt; read_words(alloc, words).ok(), Some(*call));
+        equal(rt, read_words(alloc, words).ok(), Some(*call));
     }
 }
 
 /// Each of the command lines is refused, with a message and no output.
 pub(crate) fn expect_refusals(rt: &impl Abort, alloc: Global, cases: &[&[&str]]) {
     for words in cases {
-        assert!(rt; matches!(read_words(alloc, words), Err(NoJob::Refused(_))));
+        holds(
+            rt,
+            matches!(read_words(alloc, words), Err(NoJob::Refused(_))),
+        );
         let run = run_on(alloc, words, ONE_OF_ONE.as_bytes());
         let says_error = run.told.as_slice().starts_with(b"error: ");
-        assert_eq!(rt; (run.status, run.written.len(), says_error), (2, 0, true));
+        equal(
+            rt,
+            (run.status, run.written.len(), says_error),
+            (2, 0, true),
+        );
     }
 }
 
@@ -307,15 +315,22 @@ fn reads_status_reissue_and_repair(rt: HostRuntime) {
 #[test]
 fn answers_without_a_command(rt: HostRuntime) -> Result<(), Fail> {
     let alloc = rt.alloc();
-    assert!(rt; matches!(read_words(alloc, &["shamir"]), Err(NoJob::Refused(_))));
-    assert!(rt; matches!(read_words(alloc, &["shamir", "help"]), Err(NoJob::Help(_))));
+    holds(
+        &rt,
+        matches!(read_words(alloc, &["shamir"]), Err(NoJob::Refused(_))),
+    );
+    holds(
+        &rt,
+        matches!(read_words(alloc, &["shamir", "help"]), Err(NoJob::Help(_))),
+    );
     expect_refusals(&rt, alloc, &[&["shamir", "show", "help"]]);
     let help = ["shamir", "--help"];
-    assert!(rt; matches!(read_words(alloc, &help), Err(NoJob::Help(_))));
+    holds(&rt, matches!(read_words(alloc, &help), Err(NoJob::Help(_))));
     let run = run_on(alloc, &help, b"");
-    assert_eq!(rt;
+    equal(
+        &rt,
         (run.status, run.written.is_empty(), run.told.len()),
-        (0, false, 0)
+        (0, false, 0),
     );
     expect_told(&help, b"".as_slice(), Full, alloc, (WRITE_FAILED_LINE, 3))
 }

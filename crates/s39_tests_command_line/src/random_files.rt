@@ -4,6 +4,7 @@ use crate::command_line::{NONE, call, expect_calls, expect_refusals};
 use crate::value_files::expect_bad_values;
 use s39_cli::{Messages, Unwatched, program};
 use s39_command::{BadValues, Call, Job};
+use s39_expect::equal;
 use s39_fixtures::NO_TERMINAL;
 use s39_fixtures::shelves::Halted;
 use std::io::ErrorKind;
@@ -148,7 +149,7 @@ fn tries_only_an_interrupted_read_again(rt: HostRuntime) {
             NO_TERMINAL,
         )
         .status();
-        assert_eq!(rt; status, wanted);
-        assert_eq!(rt; written.as_slice(), output.as_bytes());
+        equal(&rt, status, wanted);
+        equal(&rt, written.as_slice(), output.as_bytes());
     }
 }

@@ -1,6 +1,7 @@
 //! Exit statuses: help, the version, refused command lines, flushing, a failing standard error, and no memory.
 
 use s39_cli::{Messages, no_words};
+use s39_expect::equal;
 use s39_fixtures::devices::Full;
 use s39_fixtures::{
     ONE_OF_ONE, ONE_OF_ONE_BAD_CHECKSUM, SHOW, SHOWN, WRITE_FAILED_LINE, expect_flushed,
@@ -307,7 +308,7 @@ fn keeps_its_status_where_the_errors_fail(rt: HostRuntime) {
     let no_job = untold(alloc, &["shamir", "reveal"], "", Vec::new(alloc));
     let refused = untold(alloc, &SHOW, ONE_OF_ONE_BAD_CHECKSUM, Vec::new(alloc));
     let unwritten = untold(alloc, &SHOW, ONE_OF_ONE, Full);
-    assert_eq!(rt; [no_job, refused, unwritten], [2, 1, 3]);
+    equal(&rt, [no_job, refused, unwritten], [2, 1, 3]);
 }
 
 #[test]
@@ -323,10 +324,11 @@ fn says_why_there_are_no_words(rt: HostRuntime) {
     ];
     for (kind, status, message) in cases {
         let mut told = Vec::new(alloc);
-        assert_eq!(rt;
+        equal(
+            &rt,
             no_words(&io::Error::from(kind), &mut Messages::new(&mut told)),
-            status
+            status,
         );
-        assert_eq!(rt; told.as_slice(), message);
+        equal(&rt, told.as_slice(), message);
     }
 }

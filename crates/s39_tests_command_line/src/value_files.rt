@@ -3,6 +3,7 @@
 use crate::command_line::{NONE, expect_calls, expect_refusals, passphrase, secret};
 use s39_cli::{Messages, Unwatched, program};
 use s39_command::{BadValues, Call, Job, NoJob, Texts, read_words};
+use s39_expect::equal;
 use s39_fixtures::shelves::Halted;
 use s39_fixtures::{NO_TERMINAL, ONE_OF_ONE, ONE_OF_ONE_SECRET, expect_over, run_on};
 use s39_input::SecretForm;
@@ -31,9 +32,9 @@ fn fault_of(alloc: Global, words: &[&str]) -> Option<BadValues> {
 /// Each of the command lines is refused for this fault of its values, and nothing is written.
 pub(crate) fn expect_bad_values(rt: &impl Abort, alloc: Global, cases: &[(&[&str], BadValues)]) {
     for (words, bad) in cases {
-        assert_eq!(rt; fault_of(alloc, words), Some(*bad));
+        equal(rt, fault_of(alloc, words), Some(*bad));
         let run = run_on(alloc, words, ONE_OF_ONE.as_bytes());
-        assert_eq!(rt; (run.status, run.written.len()), (2, 0));
+        equal(rt, (run.status, run.written.len()), (2, 0));
     }
 }
 
@@ -404,7 +405,7 @@ fn tries_only_an_interrupted_read_of_a_file_again(rt: HostRuntime) {
             NO_TERMINAL,
         )
         .status();
-        assert_eq!(rt; status, wanted);
-        assert_eq!(rt; written.as_slice(), output.as_bytes());
+        equal(&rt, status, wanted);
+        equal(&rt, written.as_slice(), output.as_bytes());
     }
 }

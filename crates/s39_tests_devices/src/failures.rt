@@ -3,6 +3,7 @@
 use crate::commands::{
     COMMANDS, Command, Example, READ_FAILED, Told, WRITE_FAILED, example_of, outcome_of, told,
 };
+use s39_expect::{equal, equal_for, holds, holds_for};
 use s39_fixtures::devices::{FailingAtFirst, Filling, Full, Interrupted, Source};
 use s39_fixtures::{
     ONE_OF_ONE, ONE_OF_ONE_BAD_CHECKSUM, ONE_OF_ONE_BAD_PADDING, ONE_OF_ONE_TWO_WORDS_LOST, SHOW,
@@ -37,10 +38,10 @@ fn answers_the_lines_before_a_failed_read(rt: HostRuntime) -> Result<(), Fail> {
         for text in [whole.as_str(), started.as_str()] {
             let device = Source::cut(text.as_bytes());
             let outcome = outcome_of(command, device, Vec::new(alloc));
-            assert_eq!(rt; outcome.answer, Err(READ_FAILED));
-            assert_eq!(rt; outcome.failures, (1, 0));
-            assert_eq!(rt; outcome.input.calls, text.len() + 1);
-            assert_eq!(rt; outcome.output.as_slice(), output.as_bytes());
+            equal(&rt, outcome.answer, Err(READ_FAILED));
+            equal(&rt, outcome.failures, (1, 0));
+            equal(&rt, outcome.input.calls, text.len() + 1);
+            equal(&rt, outcome.output.as_slice(), output.as_bytes());
         }
     }
     Ok(())
@@ -54,11 +55,11 @@ fn says_which_device_failed(rt: HostRuntime) -> Result<(), Fail> {
     let cut = Source::cut(line.as_bytes());
     let read_failed = ("shamir: 72 read failed\n", 3);
     expect_told(&SHOW, cut, &mut written, alloc, read_failed)?;
-    assert_eq!(rt; written.as_slice(), SHOWN.as_bytes());
+    equal(&rt, written.as_slice(), SHOWN.as_bytes());
     let mut narrow = Filling::new(alloc, 1, 0);
     let input = ONE_OF_ONE.as_bytes();
     expect_told(&SHOW, input, &mut narrow, alloc, (WRITE_FAILED_LINE, 3))?;
-    assert_eq!(rt; narrow.failed_calls, 1);
+    equal(&rt, narrow.failed_calls, 1);
     Ok(())
 }
 
@@ -83,13 +84,13 @@ fn shows_beginnings_of_a_mnemonic(rt: HostRuntime) -> Result<(), Fail> {
             ),
         };
         let ended = outcome_of(Command::Show, begun, Vec::new(alloc));
-        assert_eq!(rt; ended.answer, wanted, "ended after {end} bytes");
-        assert_eq!(rt; ended.output.as_slice(), shown.as_bytes());
+        equal_for(&rt, end, ended.answer, wanted);
+        equal(&rt, ended.output.as_slice(), shown.as_bytes());
         let failed = outcome_of(Command::Show, Source::cut(begun), Vec::new(alloc));
-        assert_eq!(rt; failed.answer, Err(READ_FAILED), "failed after {end} bytes");
-        assert_eq!(rt; failed.failures, (1, 0));
-        assert_eq!(rt; failed.input.calls, begun.len() + 1);
-        assert!(rt; failed.output.is_empty());
+        equal_for(&rt, end, failed.answer, Err(READ_FAILED));
+        equal(&rt, failed.failures, (1, 0));
+        equal(&rt, failed.input.calls, begun.len() + 1);
+        holds(&rt, failed.output.is_empty());
     }
     Ok(())
 }
@@ -111,8 +112,8 @@ fn shows_lines_of_any_bytes(rt: HostRuntime) -> Result<(), Fail> {
         let mut bytes = Vec::from_slice(alloc, ONE_OF_ONE.as_bytes())?;
         bytes[3] = other;
         let outcome = outcome_of(Command::Show, bytes.as_slice(), Vec::new(alloc));
-        assert_eq!(rt; outcome.answer, unknown, "byte {other}");
-        assert!(rt; outcome.output.is_empty());
+        equal_for(&rt, other, outcome.answer, unknown);
+        holds(&rt, outcome.output.is_empty());
     }
     let mut longest = Vec::from_slice(alloc, ONE_OF_ONE.as_bytes())?;
     for _ in longest.len()..1024 {
@@ -120,23 +121,23 @@ fn shows_lines_of_any_bytes(rt: HostRuntime) -> Result<(), Fail> {
     }
     longest.push(b'\n')?;
     let outcome = outcome_of(Command::Show, longest.as_slice(), Vec::new(alloc));
-    assert_eq!(rt; outcome.answer, Ok(0));
-    assert_eq!(rt; outcome.output.as_slice(), SHOWN.as_bytes());
+    equal(&rt, outcome.answer, Ok(0));
+    equal(&rt, outcome.output.as_slice(), SHOWN.as_bytes());
     let mut comment = repeated(alloc, b'#', 1024)?;
     let letters = repeated(alloc, b'a', 1024)?;
     for bytes in [comment.as_slice(), letters.as_slice()] {
         let outcome = outcome_of(Command::Show, Source::cut(bytes), Vec::new(alloc));
-        assert_eq!(rt; outcome.answer, Err(READ_FAILED));
-        assert_eq!(rt; outcome.input.calls, bytes.len() + 1);
-        assert!(rt; outcome.output.is_empty());
+        equal(&rt, outcome.answer, Err(READ_FAILED));
+        equal(&rt, outcome.input.calls, bytes.len() + 1);
+        holds(&rt, outcome.output.is_empty());
     }
     comment.push(b'x')?;
     let bytes = comment.as_slice();
     let outcome = outcome_of(Command::Show, Source::cut(bytes), Vec::new(alloc));
-    assert_eq!(rt; outcome.answer, at_line_1(LineRefusal::TooLong));
-    assert_eq!(rt; outcome.failures, (0, 0));
-    assert_eq!(rt; outcome.input.calls, bytes.len());
-    assert!(rt; outcome.output.is_empty());
+    equal(&rt, outcome.answer, at_line_1(LineRefusal::TooLong));
+    equal(&rt, outcome.failures, (0, 0));
+    equal(&rt, outcome.input.calls, bytes.len());
+    holds(&rt, outcome.output.is_empty());
     Ok(())
 }
 
@@ -156,20 +157,13 @@ fn expect_beginning(rt: &impl Abort, alloc: Global, example: &Example, piece: us
     } else {
         (Err(WRITE_FAILED), 1)
     };
-    assert_eq!(rt;
-        outcome.answer,
-        wanted,
-        "{command:?} with room for {room} bytes"
-    );
-    assert_eq!(rt; outcome.failures, (0, failures));
+    equal_for(rt, (command, room), outcome.answer, wanted);
+    equal(rt, outcome.failures, (0, failures));
     let written = outcome.output.bytes.as_slice();
-    assert_eq!(rt; written.len(), room.min(whole.len()));
-    assert!(rt;
-        whole.starts_with(written),
-        "{command:?} with room for {room} bytes"
-    );
+    equal(rt, written.len(), room.min(whole.len()));
+    holds_for(rt, (command, room), whole.starts_with(written));
     // No other write follows the failed one.
-    assert_eq!(rt; outcome.output.failed_calls as u64, failures);
+    equal(rt, outcome.output.failed_calls as u64, failures);
 }
 
 #[test]
@@ -183,7 +177,7 @@ fn writes_beginnings(rt: HostRuntime) -> Result<(), Fail> {
     ];
     for (command, length, rooms) in cases {
         let example = example_of(alloc, command)?;
-        assert_eq!(rt; example.output.len(), length);
+        equal(&rt, example.output.len(), length);
         for room in rooms {
             for piece in [1, 100] {
                 expect_beginning(&rt, alloc, &example, piece, *room);
@@ -197,7 +191,7 @@ fn writes_beginnings(rt: HostRuntime) -> Result<(), Fail> {
 fn writes_each_beginning_of_a_drill(rt: HostRuntime) -> Result<(), Fail> {
     let alloc = rt.alloc();
     let example = example_of(alloc, Command::Drill)?;
-    assert_eq!(rt; example.output.len(), 315);
+    equal(&rt, example.output.len(), 315);
     for room in 0..=315 {
         expect_beginning(&rt, alloc, &example, 100, room);
     }
@@ -209,8 +203,8 @@ fn answers_a_write_of_nothing(rt: HostRuntime) -> Result<(), Fail> {
     for command in COMMANDS {
         let example = example_of(rt.alloc(), command)?;
         let outcome = outcome_of(command, example.input.as_slice(), Full);
-        assert_eq!(rt; outcome.answer, Err(WRITE_FAILED), "{command:?}");
-        assert_eq!(rt; outcome.failures, (0, 1));
+        equal_for(&rt, command, outcome.answer, Err(WRITE_FAILED));
+        equal(&rt, outcome.failures, (0, 1));
     }
     Ok(())
 }
@@ -221,15 +215,15 @@ fn tries_no_interrupted_call_again(rt: HostRuntime) -> Result<(), Fail> {
     for command in COMMANDS {
         let input = FailingAtFirst::new(alloc, ErrorKind::Interrupted, 1, b"");
         let read = outcome_of(command, input, Vec::new(alloc));
-        assert_eq!(rt; read.answer, Err(READ_FAILED), "{command:?}");
-        assert_eq!(rt; (read.failures, read.input.calls), ((1, 0), 1));
-        assert!(rt; read.output.is_empty());
+        equal_for(&rt, command, read.answer, Err(READ_FAILED));
+        equal(&rt, (read.failures, read.input.calls), ((1, 0), 1));
+        holds(&rt, read.output.is_empty());
         let example = example_of(alloc, command)?;
         let pipe = Interrupted::new(alloc, 1);
         let written = outcome_of(command, example.input.as_slice(), pipe);
-        assert_eq!(rt; written.answer, Err(WRITE_FAILED), "{command:?}");
-        assert_eq!(rt; (written.failures, written.output.calls), ((0, 1), 1));
-        assert!(rt; written.output.bytes.is_empty());
+        equal_for(&rt, command, written.answer, Err(WRITE_FAILED));
+        equal(&rt, (written.failures, written.output.calls), ((0, 1), 1));
+        holds(&rt, written.output.bytes.is_empty());
     }
     Ok(())
 }
@@ -246,15 +240,16 @@ fn answers_each_failed_read(rt: HostRuntime) -> Result<(), Fail> {
             for good_calls in 0..calls {
                 let device = Source::new(input, piece, good_calls);
                 let outcome = outcome_of(command, device, Vec::new(alloc));
-                assert_eq!(rt;
+                equal_for(
+                    &rt,
+                    (command, piece, good_calls),
                     outcome.answer,
                     Err(READ_FAILED),
-                    "{command:?} {piece} {good_calls}"
                 );
-                assert_eq!(rt; outcome.failures, (1, 0));
-                assert!(rt; outcome.output.is_empty());
+                equal(&rt, outcome.failures, (1, 0));
+                holds(&rt, outcome.output.is_empty());
                 // No other read follows the failed one.
-                assert_eq!(rt; outcome.input.calls, good_calls + 1);
+                equal(&rt, outcome.input.calls, good_calls + 1);
             }
         }
     }
@@ -268,9 +263,13 @@ fn takes_and_gives_single_bytes(rt: HostRuntime) -> Result<(), Fail> {
         let example = example_of(alloc, command)?;
         let device = Source::slow(example.input.as_slice());
         let outcome = outcome_of(command, device, Filling::new(alloc, 1, 4096));
-        assert_eq!(rt; outcome.answer, Ok(0), "{command:?}");
-        assert_eq!(rt; outcome.failures, (0, 0));
-        assert_eq!(rt; outcome.output.bytes.as_slice(), example.output.as_bytes());
+        equal_for(&rt, command, outcome.answer, Ok(0));
+        equal(&rt, outcome.failures, (0, 0));
+        equal(
+            &rt,
+            outcome.output.bytes.as_slice(),
+            example.output.as_bytes(),
+        );
     }
     Ok(())
 }
@@ -284,11 +283,11 @@ fn counts_a_write_of_nothing_as_a_failure(rt: HostRuntime) -> Result<(), Fail> {
     assert_eq!(rt; output.failures(), 1);
     let mut input = Counting::new(b"ab".as_slice());
     let mut buf = [0; 4];
-    assert_eq!(rt; input.read(&mut buf)?, 2);
-    assert_eq!(rt; input.failures(), 0);
+    equal(&rt, input.read(&mut buf)?, 2);
+    equal(&rt, input.failures(), 0);
     let mut input = Counting::new(ONE_OF_ONE_BAD_PADDING.as_bytes());
     let answer = run_show(&mut input, &mut output).map_err(told);
     let refusal = LineRefusal::Word(WordError::BadPadding);
-    assert_eq!(rt; answer, Err((Some(1), refusal.cause())));
+    equal(&rt, answer, Err((Some(1), refusal.cause())));
     Ok(())
 }

@@ -2,6 +2,7 @@
 //! asked for before the line is taken.
 
 use s39_cli::Destination;
+use s39_expect::{equal, equal_for};
 use s39_fixtures::devices::{
     FailingAtFirst, Filling, Flushing, Full, Interrupted, SlowLine, Source,
 };
@@ -59,8 +60,8 @@ fn expect_calls(
         }
         Destination::Elsewhere => program(alloc, words, input.as_bytes(), &mut device, told),
     };
-    assert_eq!(rt; (status, device.calls), (0, calls), "{words:?}");
-    assert_eq!(rt; device.bytes.as_slice(), output.as_bytes(), "{words:?}");
+    equal_for(rt, words, (status, device.calls), (0, calls));
+    equal_for(rt, words, device.bytes.as_slice(), output.as_bytes());
 }
 
 /// Two mnemonics shown in a pipe and at a terminal, two repaired likewise, and a drill: in as many pieces each.
@@ -116,8 +117,8 @@ fn reads_a_value_after_each_interruption(rt: HostRuntime) -> Result<(), Fail> {
         let mut device = SlowLine::new(typed.as_bytes(), interruptions);
         let mut written = Vec::new(alloc);
         expect_told(&words, &mut device, &mut written, alloc, ("", 0))?;
-        assert_eq!(rt; written.as_slice(), ONE_OF_ONE_SECRET.as_bytes());
-        assert_eq!(rt; device.calls, calls);
+        equal(&rt, written.as_slice(), ONE_OF_ONE_SECRET.as_bytes());
+        equal(&rt, device.calls, calls);
     }
     Ok(())
 }
@@ -131,10 +132,10 @@ fn hands_lines_on_as_they_are_known(rt: HostRuntime) -> Result<(), Fail> {
 fn reads_and_writes_whole_pieces(rt: HostRuntime) -> Result<(), Fail> {
     let mut input = Counting::new(ONE_OF_ONE.as_bytes());
     let mut buf = [0; 64];
-    assert_eq!(rt; input.read(&mut buf)?, 64);
-    assert_eq!(rt; buf.as_slice(), &ONE_OF_ONE.as_bytes()[..64]);
+    equal(&rt, input.read(&mut buf)?, 64);
+    equal(&rt, buf.as_slice(), &ONE_OF_ONE.as_bytes()[..64]);
     let mut output = Counting::new(Vec::new(rt.alloc()));
-    assert_eq!(rt; output.write(ONE_OF_ONE.as_bytes())?, ONE_OF_ONE.len());
+    equal(&rt, output.write(ONE_OF_ONE.as_bytes())?, ONE_OF_ONE.len());
     Ok(())
 }
 
@@ -148,7 +149,7 @@ fn takes_a_line_before_it_reads_on(rt: HostRuntime) -> Result<(), Fail> {
         for words in [SHOW, REPAIR] {
             let mut input = Source::new(two.as_bytes(), piece, usize::MAX);
             let status = program(alloc, &words, &mut input, Full, Vec::new(alloc));
-            assert_eq!(rt; (status, input.calls), (3, 1), "{words:?}");
+            equal_for(&rt, words, (status, input.calls), (3, 1));
         }
     }
     // One that is refused, beside what a reader would give next.
@@ -158,7 +159,7 @@ fn takes_a_line_before_it_reads_on(rt: HostRuntime) -> Result<(), Fail> {
     for words in [SHOW.as_slice(), &REPAIR, &RECOVER, &DRILL] {
         let mut input = Source::new(refused.as_bytes(), 8, usize::MAX);
         let status = program(alloc, words, &mut input, Vec::new(alloc), Vec::new(alloc));
-        assert_eq!(rt; (status, input.calls), (1, 1), "{words:?}");
+        equal_for(&rt, words, (status, input.calls), (1, 1));
     }
     Ok(())
 }
@@ -171,7 +172,7 @@ fn writes_nothing_after_a_failed_write(rt: HostRuntime) -> Result<(), Fail> {
         let mut narrow = Filling::new(alloc, 1, room);
         let input = five.as_bytes();
         expect_told(&DRILL, input, &mut narrow, alloc, (WRITE_FAILED_LINE, 3))?;
-        assert_eq!(rt; (narrow.bytes.len(), narrow.failed_calls), (room, 1));
+        equal(&rt, (narrow.bytes.len(), narrow.failed_calls), (room, 1));
     }
     Ok(())
 }
@@ -193,8 +194,8 @@ fn tries_only_an_interrupted_write_again(rt: HostRuntime) -> Result<(), Fail> {
             let mut device = FailingAtFirst::new(alloc, kind, 1, b"");
             let input = five.as_bytes();
             expect_told(words, input, &mut device, alloc, (WRITE_FAILED_LINE, 3))?;
-            assert_eq!(rt; (device.calls, device.written.len()), (1, 0), "{words:?}");
-            assert_eq!(rt; device.flushes, 0, "{words:?}");
+            equal_for(&rt, words, (device.calls, device.written.len()), (1, 0));
+            equal_for(&rt, words, device.flushes, 0);
         }
     }
     Ok(())
@@ -210,20 +211,22 @@ fn expect_flushed_line(
     let two = lines(alloc, &[ONE_OF_ONE, "ducklin"])?;
     let mut piped = Flushing::new(alloc, fails);
     expect_told(&SHOW, two.as_bytes(), &mut piped, alloc, answer)?;
-    assert_eq!(rt;
+    equal(
+        rt,
         (piped.flushes, piped.bytes.as_slice()),
-        (1, SHOWN.as_bytes())
+        (1, SHOWN.as_bytes()),
     );
     let mut device = Flushing::new(alloc, fails);
     let mut told = Vec::new(alloc);
     let status = program_at_terminal(alloc, &SHOW, two.as_bytes(), &mut device, &mut told);
     let (message, wanted) = answer;
-    assert_eq!(rt; (status, device.flushes), (wanted, 1));
-    assert_eq!(rt; device.bytes.as_slice(), SHOWN.as_bytes());
+    equal(rt, (status, device.flushes), (wanted, 1));
+    equal(rt, device.bytes.as_slice(), SHOWN.as_bytes());
     let typing = "shamir: type a mnemonic on each line, then press Ctrl-D on an empty line\n";
-    assert_eq!(rt;
+    equal(
+        rt,
         told.as_slice().strip_prefix(typing.as_bytes()),
-        Some(message.as_bytes())
+        Some(message.as_bytes()),
     );
     Ok(())
 }

@@ -2,6 +2,7 @@
 
 use crate::person::{Screen, TOLD, run};
 use s39_cli::{Destination, DrillProgress, Source, Terminals, Watch};
+use s39_expect::{equal, equal_for};
 use s39_fixtures::{ALL_TERMINALS, FIVE, NO_TERMINAL, drilled, lines};
 use std::alloc::Global;
 use std::process::Abort;
@@ -36,15 +37,17 @@ fn expect_progress(
     let quiet = run(alloc, run_of, &mut plain, &mut Screen::Full, &mut untold);
     let run_of = (words, five.as_str(), terminals);
     let status = run(alloc, run_of, &mut output, &mut Screen::Full, &mut said);
-    assert_eq!(rt;
+    equal_for(
+        rt,
+        words,
         (status, output.as_slice()),
         (quiet, plain.as_slice()),
-        "{words:?}"
     );
-    assert_eq!(rt;
+    equal_for(
+        rt,
+        words,
         (untold.calls(), said.text()),
         (0, wanted.as_bytes()),
-        "{words:?}"
     );
     Ok(())
 }
@@ -117,7 +120,7 @@ fn tells_powers_of_two_and_then_multiples_of_the_greatest(rt: HostRuntime) -> Re
         let line = format!(in alloc; "shamir: quorums listed: {count}\n")?;
         all.push_str(&line)?;
     }
-    assert_eq!(rt; said.text(), all.as_bytes());
+    equal(&rt, said.text(), all.as_bytes());
     Ok(())
 }
 
@@ -135,9 +138,10 @@ fn lists_on_where_its_number_cant_be_told(rt: HostRuntime) -> Result<(), Fail> {
         &mut Screen::Full,
         &mut Screen::Full,
     );
-    assert_eq!(rt;
+    equal(
+        &rt,
         (status, output.as_slice()),
-        (0, drilled(alloc)?.as_bytes())
+        (0, drilled(alloc)?.as_bytes()),
     );
     Ok(())
 }

@@ -2,6 +2,7 @@
 
 use crate::person::{Screen, TOLD, run};
 use s39_cli::{Destination, Source, Terminals};
+use s39_expect::{equal, equal_for, holds_for};
 use s39_fixtures::{
     FIVE, NO_TERMINAL, ONE_OF_ONE, ONE_OF_ONE_BAD_CHECKSUM, TWO_NEEDED_MEMBER_0,
     TWO_NEEDED_MEMBER_2, forged, lines,
@@ -64,8 +65,8 @@ fn expect_said(
     for line in wanted {
         all.push_str(line)?;
     }
-    assert_eq!(rt; said.text(), all.as_bytes(), "{words:?}");
-    assert_eq!(rt; answer, status, "{words:?}");
+    equal_for(rt, words, said.text(), all.as_bytes());
+    equal_for(rt, words, answer, status);
     Ok(())
 }
 
@@ -297,13 +298,13 @@ fn keeps_its_answer_where_nothing_can_be_said(rt: HostRuntime) -> Result<(), Fai
             &mut Screen::new(alloc),
             &mut Screen::Full,
         );
-        assert_eq!(rt; (told, all.is_empty()), (0, false));
+        equal(&rt, (told, all.is_empty()), (0, false));
         // The first line fails, and the lines behind it are said. Or no line is taken.
         for (mut errors, said) in [(Screen::after(1, alloc), calls), (Screen::Full, 0)] {
             let mut output = Vec::new(alloc);
             let status = run(alloc, run_of, &mut output, &mut errors, &mut Screen::Full);
-            assert_eq!(rt; (status, errors.calls()), (0, said));
-            assert_eq!(rt; output.as_slice(), all.as_slice());
+            equal(&rt, (status, errors.calls()), (0, said));
+            equal(&rt, output.as_slice(), all.as_slice());
         }
     }
     Ok(())
@@ -349,8 +350,8 @@ fn says_a_refusal_in_one_write(rt: HostRuntime) -> Result<(), Fail> {
         let (mut errors, mut output) = (Screen::new(alloc), Vec::new(alloc));
         let run_of = (words, input, NO_TERMINAL);
         let status = run(alloc, run_of, &mut output, &mut errors, &mut Screen::Full);
-        assert!(rt; status != 0 && errors.calls() == 1, "{words:?}");
-        assert!(rt; errors.text().ends_with(b"\n"), "{words:?}");
+        holds_for(&rt, words, status != 0 && errors.calls() == 1);
+        holds_for(&rt, words, errors.text().ends_with(b"\n"));
     }
     Ok(())
 }

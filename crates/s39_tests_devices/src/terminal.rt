@@ -1,6 +1,7 @@
 //! A terminal: what is typed behind a fault is dropped, and random bytes aren't typed.
 
 use s39_cli::{Destination, Messages, Terminals, Unwatched, Watched, program, with_rest_dropped};
+use s39_expect::{equal, equal_for};
 use s39_fixtures::devices::{Full, Halting, Source};
 use s39_fixtures::shelves::NoFiles;
 use s39_fixtures::{
@@ -45,12 +46,13 @@ fn expect_reads(
         TYPED,
     );
     let answered = with_rest_dropped(ended, errors).status();
-    assert_eq!(rt; (answered, device.calls), (status, calls), "{words:?}");
+    equal_for(rt, words, (answered, device.calls), (status, calls));
     let said = said.as_slice();
-    assert_eq!(rt;
+    equal_for(
+        rt,
+        words,
         said.strip_prefix(before.as_bytes()),
         Some(told.as_bytes()),
-        "{words:?}"
     );
 }
 
@@ -123,12 +125,13 @@ fn drops_what_is_typed_behind_a_failed_write(rt: HostRuntime) -> Result<(), Fail
         ALL_TERMINALS,
     );
     let status = with_rest_dropped(ended, errors).status();
-    assert_eq!(rt; (status, device.calls), (3, 3));
+    equal(&rt, (status, device.calls), (3, 3));
     let told = "shamir: 73 write failed
 shamir: the rest of the input is dropped: end it with Ctrl-D\n";
-    assert_eq!(rt;
+    equal(
+        &rt,
         said.as_slice().strip_prefix(TYPING.as_bytes()),
-        Some(told.as_bytes())
+        Some(told.as_bytes()),
     );
     Ok(())
 }
@@ -153,7 +156,7 @@ fn drops_what_is_typed_after_an_interruption(rt: HostRuntime) -> Result<(), Fail
     let status = with_rest_dropped(ended, errors).status();
     // Each piece takes two calls, the first of which is interrupted, except for the first piece. The last call gives no byte.
     let pieces = refused.len().div_ceil(8);
-    assert_eq!(rt; (status, device.calls), (1, 2 * pieces + 1));
+    equal(&rt, (status, device.calls), (1, 2 * pieces + 1));
     Ok(())
 }
 

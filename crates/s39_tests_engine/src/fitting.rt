@@ -1,4 +1,5 @@
 //! Tests of `fit` of `s39_split`: random bytes by which splits have known shares. A plain program in Python computes the values.
+use s39_expect::equal;
 use s39_kdf::Bytes;
 use s39_split::{fit, split};
 use std::test::Fail;
@@ -19,21 +20,23 @@ fn fitted_bytes(rt: HostRuntime) {
     let other = Bytes::try_from(SECRETS[1].as_slice()).unwrap();
     let share = Bytes::try_from(SHARE.as_slice()).unwrap();
     let none = fit(2, &secret, &KEY, &[]);
-    assert_eq!(rt; none.as_slice(), KEY.as_slice());
+    equal(&rt, none.as_slice(), KEY.as_slice());
     let first = fit(3, &secret, &KEY, &[(0, &share)]);
-    assert_eq!(rt; &first[..12], KEY.as_slice());
-    assert_eq!(rt; &first[12..], SHARE.as_slice());
+    equal(&rt, &first[..12], KEY.as_slice());
+    equal(&rt, &first[12..], SHARE.as_slice());
     let sixth = fit(3, &secret, &KEY, &[(5, &share)]);
-    assert_eq!(rt;
+    equal(
+        &rt,
         &sixth[12..],
-        b"\x9b\x54\xc6\xd7\xa1\xe3\x14\x1b\xaf\x44\x00\xaa\x59\xed\x27\x1c".as_slice()
+        b"\x9b\x54\xc6\xd7\xa1\xe3\x14\x1b\xaf\x44\x00\xaa\x59\xed\x27\x1c".as_slice(),
     );
     let several = fit(4, &other, &KEY, &[(9, &share), (3, &secret)]);
-    assert_eq!(rt;
+    equal(
+        &rt,
         &several[12..],
         b"\xbb\x30\x71\x83\x35\x5a\x53\x30\xa2\xe6\x76\xdd\x4f\xe7\xb7\x6f\
             \xdd\x56\x09\x72\x92\xae\x31\xf1\x18\xb9\x71\xd7\x0e\x60\x05\xc7"
-            .as_slice()
+            .as_slice(),
     );
 }
 
@@ -45,7 +48,7 @@ fn each_secret_has_the_known_share(rt: HostRuntime) {
         let random = fit(3, &secret, &KEY, &[(5, &share)]);
         let mut shares: [Bytes; 16] = Default::default();
         split(3, &secret, &random, &mut shares);
-        assert_eq!(rt; shares[5].as_slice(), SHARE.as_slice());
+        equal(&rt, shares[5].as_slice(), SHARE.as_slice());
     }
 }
 

@@ -1,6 +1,7 @@
 //! What each byte stands for: every one of the 256 in the place of a byte of a text.
 
 use s39_backup::Plan;
+use s39_expect::equal_for;
 use s39_fixtures::{ONE_OF_ONE, SHOW, create, run_on};
 use s39_kdf::{BadPassphrase, check_passphrase};
 use s39_set::parse_quorum;
@@ -44,7 +45,7 @@ fn separators(rt: HostRuntime) -> Result<(), Fail> {
         let separates = matches!(byte, 9 | 13 | 32);
         let unknown = Some(WordError::UnknownWord { position: 1 });
         let refusal = if separates { None } else { unknown };
-        assert_eq!(rt; parse(text.as_slice()).err(), refusal, "{byte}");
+        equal_for(&rt, byte, parse(text.as_slice()).err(), refusal);
     }
     Ok(())
 }
@@ -90,7 +91,7 @@ fn letters(rt: HostRuntime) -> Result<(), Fail> {
             let one = Some(WordError::WordCount { words: 1 });
             let unknown = Some(WordError::UnknownWord { position: 1 });
             let refusal = if known { one } else { unknown };
-            assert_eq!(rt; parse(text.as_slice()).err(), refusal, "{byte}");
+            equal_for(&rt, byte, parse(text.as_slice()).err(), refusal);
         }
     }
     Ok(())
@@ -108,17 +109,17 @@ fn lines(rt: HostRuntime) -> Result<(), Fail> {
             9 | 13 | 32 => 12,
             _ => 11,
         };
-        assert_eq!(rt; told_of(alloc, two.as_slice()), refusal, "two with {byte}");
+        equal_for(&rt, byte, told_of(alloc, two.as_slice()), refusal);
         let alone = joined(alloc, b"", byte, b"\n")?;
         let refusal = if matches!(byte, 9 | 10 | 13 | 32 | 35) {
             0
         } else {
             11
         };
-        assert_eq!(rt; told_of(alloc, alone.as_slice()), refusal, "{byte} alone");
+        equal_for(&rt, byte, told_of(alloc, alone.as_slice()), refusal);
         let comment = joined(alloc, b" ", byte, b" comment")?;
         let refusal = if byte == 35 { 0 } else { 11 };
-        assert_eq!(rt; told_of(alloc, comment.as_slice()), refusal, "{byte} first");
+        equal_for(&rt, byte, told_of(alloc, comment.as_slice()), refusal);
     }
     Ok(())
 }
@@ -129,7 +130,7 @@ fn printable_bytes(rt: HostRuntime) {
         let refusal = check_passphrase(&[b'a', byte]).err();
         let bad = Some(BadPassphrase { position: 2 });
         let printable = 32 <= byte && byte <= 126;
-        assert_eq!(rt; refusal, if printable { None } else { bad }, "{byte}");
+        equal_for(&rt, byte, refusal, if printable { None } else { bad });
     }
 }
 
@@ -143,10 +144,11 @@ fn hexadecimal_digits(rt: HostRuntime) -> Result<(), Fail> {
         let run = run_on(alloc, &create("1of1", secret.as_str()), b"");
         let is_digit = matches!(byte, b'0'..=b'9' | b'A'..=b'F' | b'a'..=b'f');
         let lacks_bytes = run.told.as_slice().starts_with(b"shamir: 43 ");
-        assert_eq!(rt;
+        equal_for(
+            &rt,
+            byte,
             (run.status == 2, lacks_bytes),
             (!is_digit, is_digit),
-            "{byte}"
         );
     }
     Ok(())
@@ -167,12 +169,12 @@ fn bytes_of_plans_and_names(rt: HostRuntime) -> Result<(), Fail> {
         for (front, between, back) in plans {
             let text = joined(alloc, front, byte, back)?;
             let taken = Plan::parse_bytes(text.as_slice()).is_ok();
-            assert_eq!(rt; taken, byte == between, "{byte}");
+            equal_for(&rt, byte, taken, byte == between);
         }
         for (front, between, back) in names {
             let text = joined(alloc, front, byte, back)?;
             let taken = parse_quorum(text.as_slice()).is_ok();
-            assert_eq!(rt; taken, byte == between, "{byte}");
+            equal_for(&rt, byte, taken, byte == between);
         }
         let code = match Plan::parse_bytes(&[b'1', b'o', b'f', byte]) {
             Ok(_) => 0,
@@ -183,9 +185,9 @@ fn bytes_of_plans_and_names(rt: HostRuntime) -> Result<(), Fail> {
             b'2'..=b'9' => 34,
             _ => 31,
         };
-        assert_eq!(rt; code, expected, "{byte}");
+        equal_for(&rt, byte, code, expected);
         let taken = parse_quorum(&[b'0', b'.', byte]).is_ok();
-        assert_eq!(rt; taken, matches!(byte, b'0'..=b'9'), "{byte}");
+        equal_for(&rt, byte, taken, matches!(byte, b'0'..=b'9'));
     }
     Ok(())
 }

@@ -1,5 +1,6 @@
 //! The worked examples of `show`.
 
+use s39_expect::{equal, holds};
 use s39_fixtures::devices::Source;
 use s39_fixtures::{
     EXTENDABLE_ONE_OF_ONE, EXTENDABLE_ONE_OF_ONE_SHOWN, EXTENDABLE_TWO_WORDS_EXCHANGED,
@@ -31,13 +32,14 @@ fn with_zeros(alloc: Global, mnemonic: &str, places: &[usize]) -> Result<String,
 fn refuses_three_wrong_words(rt: HostRuntime) -> Result<(), Fail> {
     for places in [&[4_usize][..], &[4, 19], &[4, 19, 32]] {
         let changed = with_zeros(rt.alloc(), ONE_OF_ONE_256_BITS, places)?;
-        assert_eq!(rt;
+        equal(
+            &rt,
             parse(changed.as_bytes()).err(),
-            Some(WordError::BadChecksum)
+            Some(WordError::BadChecksum),
         );
     }
     let exchanged = parse(EXTENDABLE_TWO_WORDS_EXCHANGED.as_bytes());
-    assert_eq!(rt; exchanged.err(), Some(WordError::BadChecksum));
+    equal(&rt, exchanged.err(), Some(WordError::BadChecksum));
     Ok(())
 }
 
@@ -52,12 +54,13 @@ fn prints_the_text_that_it_read(rt: HostRuntime) -> Result<(), Fail> {
         LONGEST_ONE_OF_ONE,
     ] {
         let share = parse(text.as_bytes())?;
-        assert_eq!(rt; print(&share).as_slice(), text.as_bytes());
-        assert_eq!(rt; print(&read_back(&share)?).as_slice(), text.as_bytes());
+        equal(&rt, print(&share).as_slice(), text.as_bytes());
+        equal(&rt, print(&read_back(&share)?).as_slice(), text.as_bytes());
     }
-    assert_eq!(rt;
+    equal(
+        &rt,
         print(&parse(SPACED.as_bytes())?).as_slice(),
-        ONE_OF_ONE.as_bytes()
+        ONE_OF_ONE.as_bytes(),
     );
     Ok(())
 }
@@ -84,8 +87,8 @@ fn shows_thresholds(rt: HostRuntime) {
     let run = run_on(alloc, &SHOW, TWO_NEEDED_MEMBER_2.as_bytes());
     let fields =
         b"identifier 25653 extendable 0 exponent 2 group 0 group-threshold 1 group-count 1 member 2 member-threshold 2 value ";
-    assert!(rt; run.written.as_slice().starts_with(fields));
-    assert_eq!(rt; (run.status, run.told.is_empty()), (0, true));
+    holds(&rt, run.written.as_slice().starts_with(fields));
+    equal(&rt, (run.status, run.told.is_empty()), (0, true));
 }
 
 #[test]
@@ -162,6 +165,6 @@ fn shows_many_lines_read_by_single_bytes(rt: HostRuntime) -> Result<(), Fail> {
     let mut written = Vec::new(alloc);
     let slow = Source::slow(input.as_bytes());
     expect_told(&SHOW, slow, &mut written, alloc, ("", 0))?;
-    assert_eq!(rt; written.as_slice(), shown.as_bytes());
+    equal(&rt, written.as_slice(), shown.as_bytes());
     Ok(())
 }

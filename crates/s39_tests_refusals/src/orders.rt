@@ -1,6 +1,7 @@
 //! Where two causes apply at once, the first of their order is answered. The mnemonics have values of zeros, where
 //! nothing else is said; another program computes their words.
 
+use s39_expect::equal_for;
 use s39_fixtures::devices::Source;
 use s39_fixtures::{ONE_OF_ONE, REPAIR, SECRET, create, expect_run, expect_told, lines};
 use std::alloc::Global;
@@ -33,25 +34,24 @@ fn answers_the_first_cause_of_a_line(rt: HostRuntime) -> Result<(), Fail> {
     let long = "a".repeat(alloc, 1025)?;
     let cases = [
         // Too long, and no word of the list.
-        (long.as_str(), "71 line too long"),
+        (long.as_str(), "line 1: 71 line too long"),
         // A wrong number of words, and one that isn't in the list.
-        ("academic ducklin", "11 unknown word 2"),
+        ("academic ducklin", "line 1: 11 unknown word 2"),
         // A wrong number of words, which have no right checksum.
         (
             "duckling enlarge academic academic agency result length solution fridge kidney coal piece deal husband erode duke ajar critical decision",
-            "12 19 words make no share",
+            "line 1: 12 19 words make no share",
         ),
-        (PADDING_AND_CHECKSUM, "13 bad checksum"),
+        (PADDING_AND_CHECKSUM, "line 1: 13 bad checksum"),
         // A bad checksum, and group threshold 2 of one group.
         (
             "duckling enlarge acrobat academic academic academic academic academic academic academic academic academic academic academic academic academic academic dough scout quick",
-            "13 bad checksum",
+            "line 1: 13 bad checksum",
         ),
-        (PADDING_AND_THRESHOLD, "14 bad padding"),
+        (PADDING_AND_THRESHOLD, "line 1: 14 bad padding"),
     ];
     for (line, refusal) in cases {
-        let refusal = format!(in alloc; "line 1: {refusal}")?;
-        expect_refusal(alloc, &SHOW, line, refusal.as_str())?;
+        expect_refusal(alloc, &SHOW, line, refusal)?;
     }
     Ok(())
 }
@@ -62,27 +62,26 @@ fn answers_the_first_cause_of_marks(rt: HostRuntime) -> Result<(), Fail> {
     let long = "?".repeat(alloc, 1025)?;
     let cases = [
         // Too long, and a mark that stands for no word.
-        (long.as_str(), "71 line too long"),
+        (long.as_str(), "line 1: 71 line too long"),
         // A mark that stands for no word, and a wrong number of marks.
-        ("? ? ? zz?", "11 unknown word 4"),
+        ("? ? ? zz?", "line 1: 11 unknown word 4"),
         // A mark that stands for no word, and four open places.
         (
             "zz? enlarge ? ? ? ? academic academic academic academic academic academic academic academic academic academic academic promise upgrade traveler",
-            "11 unknown word 1",
+            "line 1: 11 unknown word 1",
         ),
         // A wrong number of marks, and four open places.
-        ("? ? ? ?", "12 4 words make no share"),
+        ("? ? ? ?", "line 1: 12 4 words make no share"),
         // No mnemonic has these words, and a bit of the padding.
         (
             "duckling enlarge ? academic easy academic academic academic academic academic academic academic academic academic academic academic academic loud twin network",
-            "17 no mnemonic has these words",
+            "line 1: 17 no mnemonic has these words",
         ),
-        (PADDING_AND_CHECKSUM, "13 bad checksum"),
-        (PADDING_AND_THRESHOLD, "14 bad padding"),
+        (PADDING_AND_CHECKSUM, "line 1: 13 bad checksum"),
+        (PADDING_AND_THRESHOLD, "line 1: 14 bad padding"),
     ];
     for (line, refusal) in cases {
-        let refusal = format!(in alloc; "line 1: {refusal}")?;
-        expect_refusal(alloc, &REPAIR, line, refusal.as_str())?;
+        expect_refusal(alloc, &REPAIR, line, refusal)?;
     }
     Ok(())
 }
@@ -329,7 +328,7 @@ pub(crate) fn expect_cut(
     let mut device = Source::new(input.as_bytes(), 4096, 1);
     let wanted = (message.as_str(), status);
     expect_told(words, &mut device, Vec::new(alloc), alloc, wanted)?;
-    assert_eq!(rt; device.calls, calls, "{refusal}");
+    equal_for(rt, refusal, device.calls, calls);
     Ok(())
 }
 

@@ -1,6 +1,7 @@
 //! The texts of faults.
 
 use s39_backup::{Mismatch, PlanError, TooFew};
+use s39_expect::{equal, holds};
 use s39_fixtures::{REPAIR, expect_run};
 use s39_input::{LineRefusal, Refusal};
 use s39_kdf::{BadFingerprint, BadPassphrase};
@@ -17,7 +18,7 @@ fn expect_text(rt: &impl Abort, alloc: Global, refusal: Refusal, text: &str) -> 
     let line = if refusal.has_line() { Some(7) } else { None };
     let told = format!(in alloc; "{}", FaultText::of(line, refusal.cause()))?;
     let wanted = format!(in alloc; "shamir: {text}")?;
-    assert_eq!(rt; told.as_str(), wanted.as_str());
+    equal(rt, told.as_str(), wanted.as_str());
     Ok(())
 }
 
@@ -145,14 +146,14 @@ fn names_refusals_of_sets(rt: HostRuntime) -> Result<(), Fail> {
 #[test]
 fn names_the_refusal_of_names(rt: HostRuntime) -> Result<(), Fail> {
     let told = format!(in rt.alloc(); "{}", FaultText::of(None, BadNames.cause()))?;
-    assert_eq!(rt; told.as_str(), "shamir: 63 bad list of names");
+    equal(&rt, told.as_str(), "shamir: 63 bad list of names");
     Ok(())
 }
 
 #[test]
 fn names_the_refusal_of_a_fingerprint(rt: HostRuntime) -> Result<(), Fail> {
     let told = format!(in rt.alloc(); "{}", FaultText::of(None, BadFingerprint.cause()))?;
-    assert_eq!(rt; told.as_str(), "shamir: 44 bad fingerprint");
+    equal(&rt, told.as_str(), "shamir: 44 bad fingerprint");
     Ok(())
 }
 
@@ -175,7 +176,7 @@ fn names_refusals_of_plans(rt: HostRuntime) -> Result<(), Fail> {
         ),
     ] {
         let told = format!(in alloc; "{}", FaultText::of(None, error.cause()))?;
-        assert_eq!(rt; told.as_str(), text);
+        equal(&rt, told.as_str(), text);
     }
     Ok(())
 }
@@ -189,7 +190,7 @@ fn no_refusal_has_a_number_of_none(rt: HostRuntime) -> Result<(), Fail> {
             11..=15 | 17..=19 | 21..=34 | 41..=44 | 51 | 52 | 61..=68 | 71..=73 => true,
             _ => false,
         };
-        assert_eq!(rt; (number, is_told), (number, is_refusal));
+        equal(&rt, (number, is_told), (number, is_refusal));
     }
     Ok(())
 }
@@ -212,7 +213,7 @@ fn expect_short(rt: &impl Abort, alloc: Global, number: u8) -> Result<(), Fail> 
     for (first, second) in greatest {
         let cause = Cause::new(number, first, second);
         let told = format!(in alloc; "{}", FaultText::of(Some(u64::MAX), cause))?;
-        assert!(rt; told.len() <= LONGEST.len());
+        holds(rt, told.len() <= LONGEST.len());
     }
     Ok(())
 }
@@ -225,7 +226,7 @@ fn no_message_is_longer_than_the_longest(rt: HostRuntime) -> Result<(), Fail> {
         code: 255,
         text: RefusalText::Undetermined(255, 255, 255, 255, 255, 255),
     };
-    assert_eq!(rt; format!(in alloc; "{greatest}")?.as_str(), LONGEST);
+    equal(&rt, format!(in alloc; "{greatest}")?.as_str(), LONGEST);
     for number in 0..=255 {
         expect_short(&rt, alloc, number)?;
     }

@@ -5,6 +5,7 @@ use s39_creating::{
     create_lines, lines_from_encrypted, reissue_lines, resplit_lines, run_create, run_reissue,
     run_resplit,
 };
+use s39_expect::{equal, holds};
 use s39_input::Counting;
 use s39_kdf::Params;
 use s39_set::parse_names;
@@ -31,13 +32,19 @@ fn creations(rt: &(impl Abort + AllocGlobal)) -> Result<(), Fail> {
     let mut text = Vec::new(rt.alloc());
     let mut output = Counting::new(&mut text);
     run_create(&plan, &secret, b"TREZOR", options, &mut input, &mut output)?;
-    assert!(rt; text.starts_with(b"duckling enlarge academic academic agency "));
+    holds(
+        rt,
+        text.starts_with(b"duckling enlarge academic academic agency "),
+    );
 
     let random = b"\x1f\x09";
     let mut text = [0; 200];
     let put = create_lines(&plan, &secret, b"TREZOR", options, random, &mut text)?;
-    assert_eq!(rt; (put.written, put.lines), (146, 1));
-    assert!(rt; text.starts_with(b"duckling enlarge academic academic agency "));
+    equal(rt, (put.written, put.lines), (146, 1));
+    holds(
+        rt,
+        text.starts_with(b"duckling enlarge academic academic agency "),
+    );
     Ok(())
 }
 
@@ -53,7 +60,10 @@ fn reissues(rt: &(impl Abort + AllocGlobal)) -> Result<(), Fail> {
     );
     let mut text = Vec::new(rt.alloc());
     run_reissue(&plan, &names, &mut input, &mut Counting::new(&mut text))?;
-    assert!(rt; text.starts_with(b"shadow pistol academic agency acid license obtain "));
+    holds(
+        rt,
+        text.starts_with(b"shadow pistol academic agency acid license obtain "),
+    );
 
     let lines =
         b"shadow pistol academic always adequate wildlife fancy gross oasis cylinder mustang \
@@ -62,8 +72,11 @@ fn reissues(rt: &(impl Abort + AllocGlobal)) -> Result<(), Fail> {
         twice unkind craft early superior advocate guest smoking\n";
     let mut text = [0; 200];
     let put = reissue_lines(&plan, &names, lines, &mut text)?;
-    assert_eq!(rt; (put.written, put.lines), (145, 1));
-    assert!(rt; text.starts_with(b"shadow pistol academic agency acid license obtain "));
+    equal(rt, (put.written, put.lines), (145, 1));
+    holds(
+        rt,
+        text.starts_with(b"shadow pistol academic agency acid license obtain "),
+    );
     Ok(())
 }
 
@@ -83,7 +96,10 @@ fn splits(rt: &(impl Abort + AllocGlobal)) -> Result<(), Fail> {
         &mut input,
         &mut Counting::new(&mut text),
     )?;
-    assert!(rt; text.starts_with(b"cleanup pecan academic academic broken "));
+    holds(
+        rt,
+        text.starts_with(b"cleanup pecan academic academic broken "),
+    );
 
     let lines =
         b"enemy favorite academic acid cowboy phrase havoc level response walnut budget painting \
@@ -92,8 +108,11 @@ fn splits(rt: &(impl Abort + AllocGlobal)) -> Result<(), Fail> {
         center unfair training emphasis evening belong fake enforce\n";
     let mut text = [0; 200];
     let put = resplit_lines(&plan, lines, b"\x12\x34", &mut text)?;
-    assert_eq!(rt; put.lines, 1);
-    assert!(rt; text.starts_with(b"cleanup pecan academic academic broken "));
+    equal(rt, put.lines, 1);
+    holds(
+        rt,
+        text.starts_with(b"cleanup pecan academic academic broken "),
+    );
     Ok(())
 }
 
@@ -107,7 +126,10 @@ fn splits_encrypted(rt: &impl Abort) -> Result<(), Fail> {
     let encrypted = b"\x14\xd7\x86\xbd\xb0\x0a\x6f\xef\x14\x16\x3f\x4e\xc9\x9b\xf2\x60";
     let mut text = [0; 200];
     let put = lines_from_encrypted(&plan, params, encrypted, b"\x5a\x17", &mut text)?;
-    assert_eq!(rt; put.lines, 1);
-    assert!(rt; text.starts_with(b"race retailer academic academic aircraft "));
+    equal(rt, put.lines, 1);
+    holds(
+        rt,
+        text.starts_with(b"race retailer academic academic aircraft "),
+    );
     Ok(())
 }

@@ -1,6 +1,7 @@
 //! The examples of the doc comments of `s39_drilling`, line for line. The values come from published vectors, or from a plain reading of
 //! the standard in Python.
 use s39_drilling::{Unwatched, drill_lines, drill_set, list_from, run_drill, start_of};
+use s39_expect::{equal, holds};
 use s39_input::{Counting, SecretForm, checked_set_in};
 use std::alloc::AllocGlobal;
 use std::process::Abort;
@@ -21,8 +22,8 @@ fn drills(rt: &(impl Abort + AllocGlobal)) -> Result<(), Fail> {
     let mut output = Counting::new(&mut text);
     let form = SecretForm::Fingerprint;
     let done = run_drill(form, b"TREZOR", None, 1000, &mut input, &mut output)?;
-    assert_eq!(rt; done.mismatches, 0);
-    assert_eq!(rt; text.as_slice(), b"0.0 df41d8fe\nend\n".as_slice());
+    equal(rt, done.mismatches, 0);
+    equal(rt, text.as_slice(), b"0.0 df41d8fe\nend\n".as_slice());
 
     let line =
         b"duckling enlarge academic academic agency result length solution fridge kidney coal \
@@ -41,8 +42,8 @@ fn drills(rt: &(impl Abort + AllocGlobal)) -> Result<(), Fail> {
         &mut output,
         &mut Unwatched,
     )?;
-    assert_eq!(rt; done.mismatches, 0);
-    assert_eq!(rt; text.as_slice(), b"0.0 df41d8fe\nend\n".as_slice());
+    equal(rt, done.mismatches, 0);
+    equal(rt, text.as_slice(), b"0.0 df41d8fe\nend\n".as_slice());
 
     let line =
         b"duckling enlarge academic academic agency result length solution fridge kidney coal \
@@ -50,9 +51,12 @@ fn drills(rt: &(impl Abort + AllocGlobal)) -> Result<(), Fail> {
     let mut text = [0; 100];
     let form = SecretForm::Digits;
     let listing = drill_lines(form, b"TREZOR", None, 1000, line, &mut text)?;
-    assert_eq!(rt; (listing.listed, listing.mismatches), (1, 0));
-    assert_eq!(rt; (listing.last, listing.written), (37, 41));
-    assert!(rt; text.starts_with(b"0.0 bb54aac4b89dc868ba37d9cc21b2cece\nend\n"));
+    equal(rt, (listing.listed, listing.mismatches), (1, 0));
+    equal(rt, (listing.last, listing.written), (37, 41));
+    holds(
+        rt,
+        text.starts_with(b"0.0 bb54aac4b89dc868ba37d9cc21b2cece\nend\n"),
+    );
 
     let line =
         b"duckling enlarge academic academic agency result length solution fridge kidney coal \
@@ -67,7 +71,7 @@ fn drills(rt: &(impl Abort + AllocGlobal)) -> Result<(), Fail> {
         &set,
         &mut text,
     )?;
-    assert_eq!(rt; (listing.last, listing.written), (13, 17));
-    assert_eq!(rt; text, *b"0.0 df41d8fe\nend\n");
+    equal(rt, (listing.last, listing.written), (13, 17));
+    equal(rt, text, *b"0.0 df41d8fe\nend\n");
     Ok(())
 }

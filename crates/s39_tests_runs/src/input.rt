@@ -1,5 +1,6 @@
 //! Tests of `s39_input`: repairs, and the examples of its doc comments, line for line. The values come from published vectors,
 //! or from a plain reading of the standard in Python; an independent program computed what fits.
+use s39_expect::{equal, holds};
 use s39_input::{Counting, Fault, put, read_hex, run_repair, run_show, write_hex};
 use std::alloc::AllocGlobal;
 use std::process::Abort;
@@ -36,8 +37,8 @@ fn expect(
 ) {
     let mut text = Vec::new(rt.alloc());
     let answered = run_repair(&mut Counting::new(input), &mut Counting::new(&mut text));
-    assert_eq!(rt; answered.map_err(told), answer);
-    assert_eq!(rt; text.as_slice(), output);
+    equal(rt, answered.map_err(told), answer);
+    equal(rt, text.as_slice(), output);
 }
 
 #[test]
@@ -137,24 +138,24 @@ fn examples(rt: HostRuntime) -> Result<(), Fail> {
 fn devices(rt: &impl Abort) -> Result<(), Fail> {
     let mut input = Counting::new(b"shamir".as_slice());
     let mut piece = [0; 4];
-    assert_eq!(rt; input.read(&mut piece)?, 4);
-    assert_eq!(rt; (piece, input.failures()), (*b"sham", 0));
+    equal(rt, input.read(&mut piece)?, 4);
+    equal(rt, (piece, input.failures()), (*b"sham", 0));
 
     let mut slice = *b"recover";
     put(&mut slice, 2, b"..");
-    assert_eq!(rt; slice, *b"re..ver");
+    equal(rt, slice, *b"re..ver");
     Ok(())
 }
 
 fn digits(rt: &impl Abort) {
     let mut digits = [0; 4];
     write_hex(b"\x07\xbf", &mut digits);
-    assert_eq!(rt; digits, *b"07bf");
+    equal(rt, digits, *b"07bf");
 
     let mut bytes = [0; 2];
-    assert!(rt; read_hex(b"07bF", &mut bytes));
-    assert_eq!(rt; bytes, *b"\x07\xbf");
-    assert!(rt; !read_hex(b"07bg", &mut bytes));
+    holds(rt, read_hex(b"07bF", &mut bytes));
+    equal(rt, bytes, *b"\x07\xbf");
+    holds(rt, !read_hex(b"07bg", &mut bytes));
 }
 
 fn shown(rt: &(impl Abort + AllocGlobal)) -> Result<(), Fail> {
@@ -165,7 +166,10 @@ fn shown(rt: &(impl Abort + AllocGlobal)) -> Result<(), Fail> {
     );
     let mut text = Vec::new(rt.alloc());
     run_show(&mut input, &mut Counting::new(&mut text))?;
-    assert!(rt; text.starts_with(b"identifier 7945 extendable 0 exponent 0 group 0 "));
+    holds(
+        rt,
+        text.starts_with(b"identifier 7945 extendable 0 exponent 0 group 0 "),
+    );
     Ok(())
 }
 
@@ -176,7 +180,10 @@ fn repaired(rt: &(impl Abort + AllocGlobal)) -> Result<(), Fail> {
             .as_slice(),
     );
     let mut text = Vec::new(rt.alloc());
-    assert!(rt; run_repair(&mut input, &mut Counting::new(&mut text))?);
-    assert!(rt; text.starts_with(b"duckling enlarge academic academic agency result length "));
+    holds(rt, run_repair(&mut input, &mut Counting::new(&mut text))?);
+    holds(
+        rt,
+        text.starts_with(b"duckling enlarge academic academic agency result length "),
+    );
     Ok(())
 }

@@ -1,5 +1,6 @@
 //! Tests of `judge`, and of the status of the set that it gives. The mnemonics are those of published vectors, or a plain reading of
 //! the standard in Python made them, which also tells each status.
+use s39_expect::{equal, holds};
 use s39_input::{Fault, judge};
 use s39_reading::set_status;
 use std::process::Abort;
@@ -83,11 +84,11 @@ fn mnemonics_are_judged(rt: HostRuntime) -> Result<(), Fail> {
     ];
     for (lines, line, id, again, status) in cases {
         let judged = judge(lines, line)?;
-        assert_eq!(rt; (judged.share.id(), judged.again), (id, again));
+        equal(&rt, (judged.share.id(), judged.again), (id, again));
         let mut text = [0; 60];
         let told = set_status(&judged.set, &mut text)?;
-        assert_eq!(rt; told.written, status.len());
-        assert!(rt; text.starts_with(status));
+        equal(&rt, told.written, status.len());
+        holds(&rt, text.starts_with(status));
     }
     Ok(())
 }
@@ -123,7 +124,7 @@ fn mnemonics_are_refused(rt: HostRuntime) {
         (&long, MEMBER_0, (1, 71, 0, 0)),
     ];
     for (lines, line, refused) in cases {
-        assert_eq!(rt; judge(lines, line).err().map(told), Some(refused));
+        equal(&rt, judge(lines, line).err().map(told), Some(refused));
     }
 }
 
@@ -140,13 +141,14 @@ fn judged(rt: &impl Abort) -> Result<(), Fail> {
         b"duckling enlarge academic academic agency result length solution fridge kidney coal \
         piece deal husband erode duke ajar critical decision keyboard";
     let judged = judge(first, first)?;
-    assert_eq!(rt; (judged.share.id(), judged.again), (25_653, true));
+    equal(rt, (judged.share.id(), judged.again), (25_653, true));
     let judged = judge(first, other)?;
-    assert_eq!(rt; (judged.share.id(), judged.again), (7945, false));
+    equal(rt, (judged.share.id(), judged.again), (7945, false));
     let fault = judge(first, &other[1..]).err();
-    assert_eq!(rt;
+    equal(
+        rt,
         fault.map(|fault| (fault.line, fault.refusal.cause().code)),
-        Some((None, 11))
+        Some((None, 11)),
     );
     Ok(())
 }

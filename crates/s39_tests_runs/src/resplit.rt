@@ -1,6 +1,7 @@
 //! Tests of `run_resplit`, `resplit_lines` and `lines_from_encrypted`. A plain reading of the standard in Python computed the mnemonics.
 use s39_backup::Plan;
 use s39_creating::{lines_from_encrypted, resplit_lines, run_resplit};
+use s39_expect::{equal, holds};
 use s39_input::{Counting, NoOutput};
 use s39_kdf::Params;
 use s39_reading::encrypted_in;
@@ -59,21 +60,21 @@ fn new_mnemonics(rt: HostRuntime) -> Result<(), Fail> {
     let mut text = Vec::new(rt.alloc());
     let mut input = Counting::new(OLD);
     run_resplit(&plan, RANDOM, &mut input, &mut Counting::new(&mut text))?;
-    assert_eq!(rt; text.as_slice(), NEW);
+    equal(&rt, text.as_slice(), NEW);
 
     let mut text = [0; 800];
     let put = resplit_lines(&plan, OLD, RANDOM, &mut text)?;
-    assert_eq!(rt; (put.written, put.lines), (NEW.len(), 5));
-    assert!(rt; text.starts_with(NEW));
+    equal(&rt, (put.written, put.lines), (NEW.len(), 5));
+    holds(&rt, text.starts_with(NEW));
 
     let mut text = [7; 100];
     match resplit_lines(&plan, OLD, RANDOM, &mut text) {
         Err(NoOutput::TooShort(short)) => {
-            assert_eq!(rt; short.needed, NEW.len());
+            equal(&rt, short.needed, NEW.len());
         }
-        _ => assert!(rt; false),
+        _ => holds(&rt, false),
     }
-    assert_eq!(rt; text, [7; 100]);
+    equal(&rt, text, [7; 100]);
     Ok(())
 }
 
@@ -95,23 +96,31 @@ fn refused_in_order(rt: HostRuntime) -> Result<(), Fail> {
         let mut text = Vec::new(rt.alloc());
         let mut input = Counting::new(lines);
         let run = run_resplit(&plan, random, &mut input, &mut Counting::new(&mut text));
-        assert!(rt; text.is_empty());
+        holds(&rt, text.is_empty());
         match run {
-            Ok(()) => assert!(rt; false),
+            Ok(()) => holds(&rt, false),
             Err(fault) => {
                 let cause = fault.refusal.cause();
-                assert_eq!(rt; (cause.code, cause.first, fault.line), (code, first, line));
+                equal(
+                    &rt,
+                    (cause.code, cause.first, fault.line),
+                    (code, first, line),
+                );
             }
         }
         let mut text = [7; 20];
         match resplit_lines(&plan, lines, random, &mut text) {
             Err(NoOutput::Refused(fault)) => {
                 let cause = fault.refusal.cause();
-                assert_eq!(rt; (cause.code, cause.first, fault.line), (code, first, line));
+                equal(
+                    &rt,
+                    (cause.code, cause.first, fault.line),
+                    (code, first, line),
+                );
             }
-            _ => assert!(rt; false),
+            _ => holds(&rt, false),
         }
-        assert_eq!(rt; text, [7; 20]);
+        equal(&rt, text, [7; 20]);
     }
     Ok(())
 }
@@ -124,17 +133,17 @@ fn new_mnemonics_in_two_steps(rt: HostRuntime) -> Result<(), Fail> {
     let (params, bytes) = (encrypted.params, encrypted.bytes.as_slice());
     let mut text = [0; 800];
     let put = lines_from_encrypted(&plan, params, bytes, RANDOM, &mut text)?;
-    assert_eq!(rt; (put.written, put.lines), (NEW.len(), 5));
-    assert!(rt; text.starts_with(NEW));
+    equal(&rt, (put.written, put.lines), (NEW.len(), 5));
+    holds(&rt, text.starts_with(NEW));
 
     let mut text = [7; 100];
     match lines_from_encrypted(&plan, params, bytes, RANDOM, &mut text) {
         Err(NoOutput::TooShort(short)) => {
-            assert_eq!(rt; short.needed, NEW.len());
+            equal(&rt, short.needed, NEW.len());
         }
-        _ => assert!(rt; false),
+        _ => holds(&rt, false),
     }
-    assert_eq!(rt; text, [7; 100]);
+    equal(&rt, text, [7; 100]);
     Ok(())
 }
 
@@ -159,11 +168,15 @@ fn encrypted_refused_in_order(rt: HostRuntime) -> Result<(), Fail> {
         match lines_from_encrypted(&plan, params, encrypted, random, &mut text) {
             Err(NoOutput::Refused(fault)) => {
                 let cause = fault.refusal.cause();
-                assert_eq!(rt; (cause.code, cause.first, fault.line), (code, first, None));
+                equal(
+                    &rt,
+                    (cause.code, cause.first, fault.line),
+                    (code, first, None),
+                );
             }
-            _ => assert!(rt; false),
+            _ => holds(&rt, false),
         }
-        assert_eq!(rt; text, [7; 20]);
+        equal(&rt, text, [7; 20]);
     }
     Ok(())
 }

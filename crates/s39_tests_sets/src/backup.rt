@@ -4,6 +4,7 @@ use s39_backup::{
     CreateError, Created, Members, Memo, Options, Plan, PlanError, RecoverError, combine_quorum,
     create, is_of_plan, params_of, recover_by, recover_quorum, reissue,
 };
+use s39_expect::{equal, holds};
 use s39_kdf::{Bytes, Params};
 use s39_set::{ShareSet, first, parse_quorum};
 use s39_words::{parse, print};
@@ -42,53 +43,56 @@ fn refused_plans(rt: HostRuntime) {
         ("1/", PlanError::BadPlan),
     ];
     for (text, refusal) in cases {
-        assert_eq!(rt; Plan::parse(text).err(), Some(refusal));
+        equal(&rt, Plan::parse(text).err(), Some(refusal));
     }
 }
 
 #[test]
 fn accepted_plans(rt: HostRuntime) {
     let plan = Plan::parse("16of16").expect(&rt, "a plan");
-    assert_eq!(rt; plan.group_threshold, 1);
-    assert_eq!(rt;
+    equal(&rt, plan.group_threshold, 1);
+    equal(
+        &rt,
         plan.groups.as_slice(),
         [Members {
             threshold: 16,
-            count: 16
+            count: 16,
         }]
-        .as_slice()
+        .as_slice(),
     );
     for text in ["3of5", "1/3of5"] {
         let plan = Plan::parse(text).expect(&rt, "a plan");
-        assert_eq!(rt; plan.group_threshold, 1);
-        assert_eq!(rt;
+        equal(&rt, plan.group_threshold, 1);
+        equal(
+            &rt,
             plan.groups.as_slice(),
             [Members {
                 threshold: 3,
-                count: 5
+                count: 5,
             }]
-            .as_slice()
+            .as_slice(),
         );
     }
     let plan = Plan::parse("2/2of3,1of1,10of12").expect(&rt, "a plan");
-    assert_eq!(rt; plan.group_threshold, 2);
-    assert_eq!(rt;
+    equal(&rt, plan.group_threshold, 2);
+    equal(
+        &rt,
         plan.groups.as_slice(),
         [
             Members {
                 threshold: 2,
-                count: 3
+                count: 3,
             },
             Members {
                 threshold: 1,
-                count: 1
+                count: 1,
             },
             Members {
                 threshold: 10,
-                count: 12
-            }
+                count: 12,
+            },
         ]
-        .as_slice()
+        .as_slice(),
     );
 }
 
@@ -106,20 +110,23 @@ fn created_as_planned(rt: HostRuntime) {
     let mut created = Created::new();
     create(&plan, &[0; 18], b"", options, &random, &mut created).expect(&rt, "accepted");
     let members = [(0, 0, 2), (0, 1, 2), (0, 2, 2), (1, 0, 1), (2, 0, 1)];
-    assert_eq!(rt; created.shares().len(), members.len());
+    equal(&rt, created.shares().len(), members.len());
     for (share, (group, member, threshold)) in created.shares().iter().zip(members) {
-        assert_eq!(rt;
+        equal(
+            &rt,
             (share.id(), share.extendable(), share.exponent()),
-            (0x0102, true, 1)
+            (0x0102, true, 1),
         );
-        assert_eq!(rt; (share.group_threshold(), share.group_count()), (2, 3));
-        assert_eq!(rt;
+        equal(&rt, (share.group_threshold(), share.group_count()), (2, 3));
+        equal(
+            &rt,
             (share.group_index(), share.member_index()),
-            (group, member)
+            (group, member),
         );
-        assert_eq!(rt;
+        equal(
+            &rt,
             (share.member_threshold(), share.value().len()),
-            (threshold, 18)
+            (threshold, 18),
         );
     }
 }
@@ -133,14 +140,18 @@ fn refused_creations(rt: HostRuntime) {
     };
     let mut created = Created::new();
     let refusal = create(&plan, &[0; 14], b"a\x07", options, b"", &mut created).err();
-    assert_eq!(rt; refusal.map(|refusal| refusal.cause().code), Some(41));
+    equal(&rt, refusal.map(|refusal| refusal.cause().code), Some(41));
     let refusal = create(&plan, &[0; 14], b"", options, b"", &mut created).err();
-    assert_eq!(rt; refusal.map(|refusal| refusal.cause().code), Some(42));
+    equal(&rt, refusal.map(|refusal| refusal.cause().code), Some(42));
     for random in [b"".as_slice(), b"\x00", b"\x00\x00\x00"] {
         let refusal = create(&plan, &SECRET, b"", options, random, &mut created).err();
-        assert_eq!(rt; refusal, Some(CreateError::BadRandomLength { needed: 2 }));
+        equal(
+            &rt,
+            refusal,
+            Some(CreateError::BadRandomLength { needed: 2 }),
+        );
     }
-    assert_eq!(rt; created.shares().len(), 0);
+    equal(&rt, created.shares().len(), 0);
 }
 
 /// The encrypted secret of the backup of three groups that is created from `SECRET`, with the passphrase `TREZOR`.
@@ -169,7 +180,7 @@ fn values_deciphered_once(rt: HostRuntime) {
             let encrypted = Bytes::try_from(value.as_slice()).unwrap();
             let _ = memo.secret(&encrypted);
         }
-        assert_eq!(rt; memo.made(), made);
+        equal(&rt, memo.made(), made);
     }
 }
 
@@ -185,26 +196,26 @@ fn examples(rt: HostRuntime) -> Result<(), Fail> {
 
 fn plans(rt: &impl Abort) -> Result<(), Fail> {
     let plan = Plan::parse("2/2of3,1of1,1of1")?;
-    assert_eq!(rt; (plan.group_threshold, plan.groups.len()), (2, 3));
+    equal(rt, (plan.group_threshold, plan.groups.len()), (2, 3));
     let members = Members {
         threshold: 2,
         count: 3,
     };
-    assert_eq!(rt; plan.groups.first(), Some(&members));
+    equal(rt, plan.groups.first(), Some(&members));
     let refused = Plan::parse("1of3");
-    assert_eq!(rt; refused.err(), Some(PlanError::OneOfMany { group: 0 }));
+    equal(rt, refused.err(), Some(PlanError::OneOfMany { group: 0 }));
 
     let plan = Plan::parse_bytes(b"2of3")?;
-    assert_eq!(rt; (plan.group_threshold, plan.groups.len()), (1, 1));
+    equal(rt, (plan.group_threshold, plan.groups.len()), (1, 1));
     let refused = Plan::parse_bytes(b"2of3\xff");
-    assert_eq!(rt; refused.err(), Some(PlanError::BadPlan));
+    equal(rt, refused.err(), Some(PlanError::BadPlan));
 
     let plan = Plan::parse("2/2of3,1of1,1of1")?;
-    assert_eq!(rt; plan.random_needed(16), 26);
+    equal(rt, plan.random_needed(16), 26);
 
     let plan = Plan::parse("2/2of3,1of1,1of1")?;
-    assert!(rt; plan.has_name(0, 2));
-    assert!(rt; !plan.has_name(0, 3));
+    holds(rt, plan.has_name(0, 2));
+    holds(rt, !plan.has_name(0, 3));
     Ok(())
 }
 
@@ -219,7 +230,10 @@ fn creations(rt: &impl Abort) -> Result<(), Fail> {
     let mut created = Created::new();
     create(&plan, &secret, b"TREZOR", options, random, &mut created)?;
     assert_eq!(rt; created.shares().len(), 1);
-    assert!(rt; print(&created.shares()[0]).starts_with(b"duckling enlarge academic academic "));
+    holds(
+        rt,
+        print(&created.shares()[0]).starts_with(b"duckling enlarge academic academic "),
+    );
     Ok(())
 }
 
@@ -231,20 +245,23 @@ fn recoveries(rt: &impl Abort) -> Result<(), Fail> {
     )?)?;
     let quorum = first(&set)?;
     let encrypted = combine_quorum(&set, &quorum)?;
-    assert!(rt; encrypted.starts_with(b"\x11\xbc\x60\x9d\x21\x74\x7c\x49"));
+    holds(
+        rt,
+        encrypted.starts_with(b"\x11\xbc\x60\x9d\x21\x74\x7c\x49"),
+    );
 
     let params = params_of(&set, &quorum);
-    assert_eq!(rt; (params.id, params.exponent), (7945, 0));
+    equal(rt, (params.id, params.exponent), (7945, 0));
 
     let quorum = parse_quorum(b"0.0")?;
     let secret = recover_by(&set, &quorum, b"TREZOR")?;
-    assert!(rt; secret.starts_with(b"\xbb\x54\xaa\xc4\xb8\x9d\xc8\x68"));
+    holds(rt, secret.starts_with(b"\xbb\x54\xaa\xc4\xb8\x9d\xc8\x68"));
     let other = recover_by(&set, &parse_quorum(b"0.1")?, b"TREZOR");
-    assert_eq!(rt; other.err(), Some(RecoverError::NotAQuorum));
+    equal(rt, other.err(), Some(RecoverError::NotAQuorum));
 
     let quorum = first(&set)?;
     let secret = recover_quorum(&set, &quorum, b"TREZOR")?;
-    assert!(rt; secret.starts_with(b"\xbb\x54\xaa\xc4\xb8\x9d\xc8\x68"));
+    holds(rt, secret.starts_with(b"\xbb\x54\xaa\xc4\xb8\x9d\xc8\x68"));
     Ok(())
 }
 
@@ -258,9 +275,9 @@ fn deciphered(rt: &impl Abort) -> Result<(), Fail> {
     let encrypted = *b"\x11\xbc\x60\x9d\x21\x74\x7c\x49\xba\x78\xc0\x70\x12\x93\xe4\x17";
     let encrypted = Bytes::try_from(encrypted.as_slice()).unwrap();
     let secret = memo.secret(&encrypted);
-    assert!(rt; secret.starts_with(b"\xbb\x54\xaa\xc4\xb8\x9d\xc8\x68"));
-    assert_eq!(rt; memo.secret(&encrypted).as_slice(), secret.as_slice());
-    assert_eq!(rt; memo.made(), 1);
+    holds(rt, secret.starts_with(b"\xbb\x54\xaa\xc4\xb8\x9d\xc8\x68"));
+    equal(rt, memo.secret(&encrypted).as_slice(), secret.as_slice());
+    equal(rt, memo.made(), 1);
     Ok(())
 }
 
@@ -270,8 +287,8 @@ fn sets_of_plans(rt: &impl Abort) -> Result<(), Fail> {
         b"shadow pistol academic always adequate wildlife fancy gross oasis cylinder mustang \
         wrist rescue view short owner flip making coding armed",
     )?)?;
-    assert!(rt; is_of_plan(&set, &Plan::parse("2of3")?));
-    assert!(rt; !is_of_plan(&set, &Plan::parse("3of3")?));
+    holds(rt, is_of_plan(&set, &Plan::parse("2of3")?));
+    holds(rt, !is_of_plan(&set, &Plan::parse("3of3")?));
     Ok(())
 }
 
@@ -289,6 +306,9 @@ fn reissues(rt: &impl Abort) -> Result<(), Fail> {
     assert!(rt; is_of_plan(&set, &plan));
     assert!(rt; plan.has_name(0, 1));
     let share = reissue(&plan, &set, 0, 1)?;
-    assert!(rt; print(&share).starts_with(b"shadow pistol academic agency acid license obtain "));
+    holds(
+        rt,
+        print(&share).starts_with(b"shadow pistol academic agency acid license obtain "),
+    );
     Ok(())
 }

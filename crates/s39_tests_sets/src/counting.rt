@@ -1,5 +1,6 @@
 //! Tests of how many quorums a set has. The counts are from Python: sums of products of `math.comb`.
 use crate::set::zeros;
+use s39_expect::equal;
 use s39_set::{ShareSet, quorum_count_of};
 use std::test::Fail;
 
@@ -55,7 +56,7 @@ fn counts_of_quorums(rt: HostRuntime) -> Result<(), Fail> {
     ];
     for (group_threshold, first, count) in rows {
         let set = set_of(group_threshold, &groups_of(first))?;
-        assert_eq!(rt; quorum_count_of(&set), count);
+        equal(&rt, quorum_count_of(&set), count);
     }
     Ok(())
 }
@@ -69,7 +70,7 @@ fn counts_of_sixteen_groups(rt: HostRuntime) -> Result<(), Fail> {
     ];
     for (group_threshold, group, count) in rows {
         let set = set_of(group_threshold, &[group; 16])?;
-        assert_eq!(rt; quorum_count_of(&set), count);
+        equal(&rt, quorum_count_of(&set), count);
     }
     Ok(())
 }

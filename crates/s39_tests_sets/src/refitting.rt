@@ -1,5 +1,6 @@
 //! Tests of `refit` of `s39_backup`: backups of two secrets that have some mnemonics in common.
 use s39_backup::{Created, Options, Plan, create, refit};
+use s39_expect::{equal, holds};
 use s39_set::parse_quorum;
 use s39_words::print;
 use std::test::Fail;
@@ -52,13 +53,13 @@ fn kept_mnemonics_stay(rt: HostRuntime) {
             &keep,
             &mut random,
         );
-        assert_eq!(rt; answer, two_short);
-        assert!(rt; two_short || random.as_slice() == RANDOM.as_slice());
+        equal(&rt, answer, two_short);
+        holds(&rt, two_short || random.as_slice() == RANDOM.as_slice());
         let mut second = Created::new();
         create(&plan, &OTHER, b"TREZOR", OPTIONS, &random, &mut second).expect(&rt, "accepted");
-        assert_eq!(rt; second.shares().len(), 6);
+        equal(&rt, second.shares().len(), 6);
         if two_short {
-            assert_eq!(rt; same_mnemonics(&first, &second, keep.pairs()), 2);
+            equal(&rt, same_mnemonics(&first, &second, keep.pairs()), 2);
         }
     }
 }
@@ -74,11 +75,14 @@ fn examples_of_refitting(rt: HostRuntime) -> Result<(), Fail> {
     assert_eq!(rt; random.len(), plan.random_needed(16));
     let keep = parse_quorum(b"0.1")?;
     let fits = refit(&plan, &[1; 16], &[2; 16], b"", options, &keep, &mut random);
-    assert!(rt; fits);
+    holds(&rt, fits);
     let mut created = Created::new();
     create(&plan, &[2; 16], b"", options, &random, &mut created)?;
     // The second share is the one that `create` gives from the first secret and the old bytes.
     assert_eq!(rt; created.shares().len(), 3);
-    assert!(rt; print(&created.shares()[1]).starts_with(b"alarm branch academic agree advocate "));
+    holds(
+        &rt,
+        print(&created.shares()[1]).starts_with(b"alarm branch academic agree advocate "),
+    );
     Ok(())
 }

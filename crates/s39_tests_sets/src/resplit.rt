@@ -3,6 +3,7 @@
 use s39_backup::{
     Created, Mismatch, Plan, ResplitError, create_from_encrypted, recover_by, resplit,
 };
+use s39_expect::{equal, holds};
 use s39_kdf::{Params, check_secret};
 use s39_set::{SetLack, ShareSet, parse_quorum};
 use s39_words::{parse, print};
@@ -117,9 +118,9 @@ fn split_anew(rt: HostRuntime) -> Result<(), Fail> {
         let plan = Plan::parse(new.plan)?;
         let mut created = Created::new();
         resplit(&plan, &set_of(lines)?, new.random, &mut created)?;
-        assert_eq!(rt; created.shares().len(), new.mnemonics.len());
+        equal(&rt, created.shares().len(), new.mnemonics.len());
         for (share, mnemonic) in created.shares().iter().zip(new.mnemonics) {
-            assert_eq!(rt; print(share).as_slice(), *mnemonic);
+            equal(&rt, print(share).as_slice(), *mnemonic);
         }
     }
     Ok(())
@@ -141,7 +142,7 @@ fn the_same_secrets(rt: HostRuntime) -> Result<(), Fail> {
     for (passphrase, secret) in [(b"first".as_slice(), secret), (b"\x80", other)] {
         for (set, names) in [(&old, b"0.0+0.1".as_slice()), (&new, b"1.0+2.0")] {
             let recovered = recover_by(set, &parse_quorum(names)?, passphrase)?;
-            assert_eq!(rt; recovered.as_slice(), secret.as_slice());
+            equal(&rt, recovered.as_slice(), secret.as_slice());
         }
     }
     Ok(())
@@ -194,8 +195,8 @@ fn refused_in_order(rt: HostRuntime) -> Result<(), Fail> {
     for (lines, plan, random, error) in rows {
         let plan = Plan::parse(plan)?;
         let refused = resplit(&plan, &set_of(lines)?, random, &mut created);
-        assert_eq!(rt; refused, Err(error));
-        assert_eq!(rt; created.shares().len(), 4);
+        equal(&rt, refused, Err(error));
+        equal(&rt, created.shares().len(), 4);
     }
     Ok(())
 }
@@ -250,9 +251,9 @@ fn from_encrypted(rt: HostRuntime) -> Result<(), Fail> {
     for (encrypted, old, plan, random, mnemonics) in rows {
         let bytes = check_secret(encrypted)?;
         create_from_encrypted(&Plan::parse(plan)?, old, &bytes, random, &mut created)?;
-        assert_eq!(rt; created.shares().len(), mnemonics.len());
+        equal(&rt, created.shares().len(), mnemonics.len());
         for (share, mnemonic) in created.shares().iter().zip(mnemonics) {
-            assert_eq!(rt; print(share).as_slice(), *mnemonic);
+            equal(&rt, print(share).as_slice(), *mnemonic);
         }
     }
     Ok(())
@@ -276,7 +277,7 @@ fn the_secret_that_is_encrypted(rt: HostRuntime) -> Result<(), Fail> {
     }
     let recovered = recover_by(&new, &parse_quorum(b"0.0+0.1")?, b"larch")?;
     let secret = *b"\x04\xb8\x5e\xc5\xa6\x30\x9c\x20\x53\x09\x43\xf1\x66\xbd\xa9\xca";
-    assert_eq!(rt; recovered.as_slice(), secret.as_slice());
+    equal(&rt, recovered.as_slice(), secret.as_slice());
     Ok(())
 }
 
@@ -307,8 +308,8 @@ fn encrypted_refused_in_order(rt: HostRuntime) -> Result<(), Fail> {
         };
         let plan = Plan::parse(plan)?;
         let refused = create_from_encrypted(&plan, old, &encrypted, random, &mut created);
-        assert_eq!(rt; refused, Err(error));
-        assert_eq!(rt; created.shares().len(), 4);
+        equal(&rt, refused, Err(error));
+        equal(&rt, created.shares().len(), 4);
     }
     Ok(())
 }
@@ -323,7 +324,11 @@ fn causes(rt: HostRuntime) {
         (ResplitError::SameIdentifier, 68, 0),
     ] {
         let cause = error.cause();
-        assert_eq!(rt; (cause.code, cause.first, cause.second), (code, first, 0));
+        equal(
+            &rt,
+            (cause.code, cause.first, cause.second),
+            (code, first, 0),
+        );
     }
 }
 
@@ -347,8 +352,9 @@ fn splits(rt: &impl Abort) -> Result<(), Fail> {
     let mut created = Created::new();
     resplit(&plan, &set, b"\x12\x34", &mut created)?;
     assert_eq!(rt; created.shares().len(), 1);
-    assert!(rt;
-        print(&created.shares()[0]).starts_with(b"cleanup pecan academic academic broken ")
+    holds(
+        rt,
+        print(&created.shares()[0]).starts_with(b"cleanup pecan academic academic broken "),
     );
     Ok(())
 }
@@ -366,8 +372,9 @@ fn splits_encrypted(rt: &impl Abort) -> Result<(), Fail> {
     let mut created = Created::new();
     create_from_encrypted(&plan, old, &encrypted, b"\x5a\x17", &mut created)?;
     assert_eq!(rt; created.shares().len(), 1);
-    assert!(rt;
-        print(&created.shares()[0]).starts_with(b"race retailer academic academic aircraft ")
+    holds(
+        rt,
+        print(&created.shares()[0]).starts_with(b"race retailer academic academic aircraft "),
     );
     Ok(())
 }

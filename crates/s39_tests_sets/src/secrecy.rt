@@ -7,6 +7,7 @@ ghost use Rattle.s39_split.specs.Completion.{ArePointsOf};
 ghost use Rattle.s39_split.specs.Shares.{indexed_bytes, AreDistinct, HaveOneLength};
 
 use s39_backup::{Created, Options, Plan, create, refit};
+use s39_expect::{equal, holds};
 use s39_kdf::{Bytes, Params, encrypt};
 use s39_set::parse_quorum;
 use s39_split::{SECRET_PLACE, complete};
@@ -112,11 +113,11 @@ fn corresponding_bytes_give_the_shares(rt: HostRuntime) {
         let mut second = Created::new();
         create(&plan, &OTHER[..n], b"TREZOR", OPTIONS, fitted, &mut second).expect(&rt, "accepted");
         let keep = parse_quorum(names).expect(&rt, "names");
-        assert!(rt; has_names(&plan, keep.pairs()));
-        assert!(rt; have_the_same(&first, &second, keep.pairs()));
+        holds(&rt, has_names(&plan, keep.pairs()));
+        holds(&rt, have_the_same(&first, &second, keep.pairs()));
         let mut third = Created::new();
         create(&plan, &OTHER[..n], b"TREZOR", OPTIONS, random, &mut third).expect(&rt, "accepted");
-        assert!(rt; !have_the_same(&first, &third, keep.pairs()));
+        holds(&rt, !have_the_same(&first, &third, keep.pairs()));
         let mut copy = bytes;
         let refitted = &mut copy[..fitted.len()];
         let answer = refit(
@@ -128,8 +129,8 @@ fn corresponding_bytes_give_the_shares(rt: HostRuntime) {
             &keep,
             refitted,
         );
-        assert!(rt; answer);
-        assert_eq!(rt; &copy[..fitted.len()], fitted);
+        holds(&rt, answer);
+        equal(&rt, &copy[..fitted.len()], fitted);
     }
 }
 
@@ -176,7 +177,7 @@ fn one_short_rules_out_a_secret(rt: HostRuntime) {
         )
         .expect(&rt, "accepted");
         let share = created.shares().get(place).expect(&rt, "a share");
-        assert_eq!(rt; share.value().as_slice(), value.as_slice());
+        equal(&rt, share.value().as_slice(), value.as_slice());
     }
     let params = Params {
         id: 0x0108,
@@ -185,29 +186,33 @@ fn one_short_rules_out_a_secret(rt: HostRuntime) {
     };
     let secret = Bytes::try_from(&SECRET[..16]).unwrap();
     let other = Bytes::try_from(&OTHER[..16]).unwrap();
-    assert_eq!(rt;
+    equal(
+        &rt,
         encrypt(&secret, b"TREZOR", params).as_slice(),
-        ENCRYPTED.as_slice()
+        ENCRYPTED.as_slice(),
     );
-    assert_eq!(rt;
+    equal(
+        &rt,
         encrypt(&other, b"TREZOR", params).as_slice(),
-        OTHER_ENCRYPTED.as_slice()
+        OTHER_ENCRYPTED.as_slice(),
     );
     for (encrypted, ruled_out) in [(ENCRYPTED, false), (OTHER_ENCRYPTED, true)] {
         let encrypted = Bytes::try_from(encrypted.as_slice()).unwrap();
         let one = Bytes::try_from(ONE_OF_TWO.as_slice()).unwrap();
-        assert_eq!(rt;
+        equal(
+            &rt,
             are_of_no_split(2, &[(0, &one), (SECRET_PLACE, &encrypted)]),
-            ruled_out
+            ruled_out,
         );
         let first = Bytes::try_from(TWO_OF_THREE[0].as_slice()).unwrap();
         let second = Bytes::try_from(TWO_OF_THREE[1].as_slice()).unwrap();
         let points = [(1, &first), (4, &second), (SECRET_PLACE, &encrypted)];
-        assert_eq!(rt; are_of_no_split(3, &points), ruled_out);
+        equal(&rt, are_of_no_split(3, &points), ruled_out);
         let group = Bytes::try_from(ONE_GROUP.as_slice()).unwrap();
-        assert_eq!(rt;
+        equal(
+            &rt,
             are_of_no_split(2, &[(1, &group), (SECRET_PLACE, &encrypted)]),
-            ruled_out
+            ruled_out,
         );
     }
 }

@@ -1,4 +1,5 @@
 //! Tests of `s39_set`, and the examples of its doc comments.
+use s39_expect::{equal, holds};
 use s39_kdf::check_secret;
 use s39_set::{
     Added, BadCursor, BadNames, Looks, SetError, SetLack, ShareSet, Status, first, group_status_of,
@@ -78,54 +79,101 @@ pub(crate) fn three_groups(group_threshold: u8) -> Result<ShareSet, Fail> {
 
 /// The examples that stand above the functions.
 #[test]
-fn examples(rt: HostRuntime) -> Result<(), Fail> {
+fn examples_of_adding(rt: HostRuntime) -> Result<(), Fail> {
     let mut set = ShareSet::new();
-    assert_eq!(rt; set.add(parse(MEMBER_0)?), Ok(Added::New));
-    assert_eq!(rt; set.add(parse(MEMBER_2)?), Ok(Added::New));
-    assert_eq!(rt; set.add(parse(MEMBER_2)?), Ok(Added::Repeat));
+    equal(&rt, set.add(parse(MEMBER_0)?), Ok(Added::New));
+    equal(&rt, set.add(parse(MEMBER_2)?), Ok(Added::New));
+    equal(&rt, set.add(parse(MEMBER_2)?), Ok(Added::Repeat));
+    Ok(())
+}
 
-    assert_eq!(rt;
+/// The set of the other examples.
+fn two_members() -> Result<ShareSet, Fail> {
+    let mut set = ShareSet::new();
+    set.add(parse(MEMBER_0)?)?;
+    set.add(parse(MEMBER_2)?)?;
+    Ok(set)
+}
+
+#[test]
+fn examples_of_shares(rt: HostRuntime) -> Result<(), Fail> {
+    let set = two_members()?;
+    equal(
+        &rt,
         share_at(&set, 0, 2).map(|share| share.member_threshold()),
-        Some(2)
+        Some(2),
     );
-    assert!(rt; share_at(&set, 0, 1).is_none());
+    holds(&rt, share_at(&set, 0, 1).is_none());
+    Ok(())
+}
 
+#[test]
+fn examples_of_looks(rt: HostRuntime) -> Result<(), Fail> {
+    let set = two_members()?;
     let mut looks = Looks::new();
-    assert!(rt; has(&set, 0, 2, &mut looks));
-    assert!(rt; !has(&set, 0, 1, &mut looks));
-    assert_eq!(rt; looks.count(), 2);
+    holds(&rt, has(&set, 0, 2, &mut looks));
+    holds(&rt, !has(&set, 0, 1, &mut looks));
+    equal(&rt, looks.count(), 2);
+    Ok(())
+}
 
-    assert_eq!(rt; first(&set)?.pairs(), [(0, 0), (0, 2)].as_slice());
-    assert!(rt; matches!(first(&ShareSet::new()), Err(SetLack::NoShares)));
+#[test]
+fn examples_of_quorums(rt: HostRuntime) -> Result<(), Fail> {
+    let set = two_members()?;
+    let mut looks = Looks::new();
+    holds(&rt, is_quorum(&set, &parse_quorum(b"0.0+0.2")?, &mut looks));
+    holds(&rt, !is_quorum(&set, &parse_quorum(b"0.0")?, &mut looks));
+    Ok(())
+}
 
-    assert!(rt; is_quorum(&set, &parse_quorum(b"0.0+0.2")?, &mut looks));
-    assert!(rt; !is_quorum(&set, &parse_quorum(b"0.0")?, &mut looks));
-    assert!(rt; next_after(&set, &first(&set)?, &mut looks)?.is_none());
+#[test]
+fn examples_of_steps(rt: HostRuntime) -> Result<(), Fail> {
+    let set = two_members()?;
+    equal(&rt, first(&set)?.pairs(), [(0, 0), (0, 2)].as_slice());
+    holds(
+        &rt,
+        matches!(first(&ShareSet::new()), Err(SetLack::NoShares)),
+    );
+    let mut looks = Looks::new();
+    holds(&rt, next_after(&set, &first(&set)?, &mut looks)?.is_none());
+    Ok(())
+}
 
-    assert_eq!(rt;
+#[test]
+fn examples_of_names(rt: HostRuntime) -> Result<(), Fail> {
+    equal(
+        &rt,
         parse_names(b"0.2+0.10")?.pairs(),
-        [(0, 2), (0, 10)].as_slice()
+        [(0, 2), (0, 10)].as_slice(),
     );
-    assert!(rt; matches!(parse_names(b"0.10+0.2"), Err(BadNames)));
-    assert_eq!(rt;
+    holds(&rt, matches!(parse_names(b"0.10+0.2"), Err(BadNames)));
+    equal(
+        &rt,
         parse_quorum(b"0.0+0.2")?.pairs(),
-        [(0, 0), (0, 2)].as_slice()
+        [(0, 0), (0, 2)].as_slice(),
     );
-    assert!(rt; matches!(parse_quorum(b"0.16"), Err(BadCursor)));
+    holds(&rt, matches!(parse_quorum(b"0.16"), Err(BadCursor)));
+    Ok(())
+}
 
-    assert_eq!(rt;
+#[test]
+fn examples_of_what_is_at_hand(rt: HostRuntime) -> Result<(), Fail> {
+    let set = two_members()?;
+    equal(
+        &rt,
         status_of(&set),
         Some(Status {
             complete: 1,
-            required: 1
-        })
+            required: 1,
+        }),
     );
-    assert_eq!(rt;
+    equal(
+        &rt,
         group_status_of(&set, 0).map(|status| status.threshold),
-        Some(2)
+        Some(2),
     );
-    assert!(rt; group_status_of(&set, 1).is_none());
-    assert_eq!(rt; quorum_count_of(&set), 1);
+    holds(&rt, group_status_of(&set, 1).is_none());
+    equal(&rt, quorum_count_of(&set), 1);
     Ok(())
 }
 
@@ -133,21 +181,22 @@ fn examples(rt: HostRuntime) -> Result<(), Fail> {
 fn a_share_again_is_a_repeat(rt: HostRuntime) -> Result<(), Fail> {
     let mut set = ShareSet::new();
     for added in [Added::New, Added::Repeat] {
-        assert_eq!(rt; set.add(share(member_2(&[7; 16])?)?), Ok(added));
-        assert_eq!(rt;
+        equal(&rt, set.add(share(member_2(&[7; 16])?)?), Ok(added));
+        equal(
+            &rt,
             first(&set).err(),
             Some(SetLack::Incomplete {
                 complete: 0,
-                required: 1
-            })
+                required: 1,
+            }),
         );
     }
     let member_0 = ShareFields {
         member_index: 0,
         ..member_2(&[9; 16])?
     };
-    assert_eq!(rt; set.add(share(member_0)?), Ok(Added::New));
-    assert_eq!(rt; first(&set)?.pairs(), [(0, 0), (0, 2)].as_slice());
+    equal(&rt, set.add(share(member_0)?), Ok(Added::New));
+    equal(&rt, first(&set)?.pairs(), [(0, 0), (0, 2)].as_slice());
     Ok(())
 }
 
@@ -203,29 +252,32 @@ fn refused_shares(rt: HostRuntime) -> Result<(), Fail> {
             },
         ),
     ] {
-        assert_eq!(rt; set.add(share(fields)?), Err(error));
+        equal(&rt, set.add(share(fields)?), Err(error));
     }
-    assert_eq!(rt; set.add(share(fields()?)?), Ok(Added::Repeat));
+    equal(&rt, set.add(share(fields()?)?), Ok(Added::Repeat));
     Ok(())
 }
 
 #[test]
 fn first_quorums(rt: HostRuntime) -> Result<(), Fail> {
-    assert_eq!(rt; first(&ShareSet::new()).err(), Some(SetLack::NoShares));
-    assert_eq!(rt;
+    equal(&rt, first(&ShareSet::new()).err(), Some(SetLack::NoShares));
+    equal(
+        &rt,
         first(&three_groups(1)?)?.pairs(),
-        [(0, 0), (0, 5)].as_slice()
+        [(0, 0), (0, 5)].as_slice(),
     );
-    assert_eq!(rt;
+    equal(
+        &rt,
         first(&three_groups(2)?)?.pairs(),
-        [(0, 0), (0, 5), (15, 3)].as_slice()
+        [(0, 0), (0, 5), (15, 3)].as_slice(),
     );
-    assert_eq!(rt;
+    equal(
+        &rt,
         first(&three_groups(3)?).err(),
         Some(SetLack::Incomplete {
             complete: 2,
-            required: 3
-        })
+            required: 3,
+        }),
     );
     Ok(())
 }
@@ -234,11 +286,11 @@ fn first_quorums(rt: HostRuntime) -> Result<(), Fail> {
 fn quorums_of_another_set(rt: HostRuntime) -> Result<(), Fail> {
     let quorum = first(&three_groups(2)?)?;
     let mut looks = Looks::new();
-    assert!(rt; is_quorum(&three_groups(2)?, &quorum, &mut looks));
+    holds(&rt, is_quorum(&three_groups(2)?, &quorum, &mut looks));
     let names = quorum.pairs().len() as u64;
-    assert!(rt; names <= looks.count() && looks.count() <= 1024);
-    assert!(rt; !is_quorum(&three_groups(1)?, &quorum, &mut looks));
-    assert!(rt; !is_quorum(&ShareSet::new(), &quorum, &mut looks));
+    holds(&rt, names <= looks.count() && looks.count() <= 1024);
+    holds(&rt, !is_quorum(&three_groups(1)?, &quorum, &mut looks));
+    holds(&rt, !is_quorum(&ShareSet::new(), &quorum, &mut looks));
     Ok(())
 }
 
@@ -253,15 +305,16 @@ fn shares_by_name(rt: HostRuntime) -> Result<(), Fail> {
         (16, 0, false),
     ] {
         let mut looks = Looks::new();
-        assert_eq!(rt; share_at(&set, group, member).is_some(), there);
-        assert_eq!(rt; has(&set, group, member, &mut looks), there);
-        assert_eq!(rt; looks.count(), 1);
+        equal(&rt, share_at(&set, group, member).is_some(), there);
+        equal(&rt, has(&set, group, member, &mut looks), there);
+        equal(&rt, looks.count(), 1);
         looks.turn();
-        assert_eq!(rt; looks.count(), 2);
+        equal(&rt, looks.count(), 2);
     }
-    assert_eq!(rt;
+    equal(
+        &rt,
         share_at(&set, 15, 4).map(|share| share.member_index()),
-        Some(4)
+        Some(4),
     );
     Ok(())
 }
@@ -281,19 +334,21 @@ fn codes_of_causes(rt: HostRuntime) {
             member: 1,
         },
     ];
-    assert_eq!(rt;
+    equal(
+        &rt,
         causes.map(|cause| cause.cause().code),
-        [21, 22, 23, 24, 25, 26, 27, 28]
+        [21, 22, 23, 24, 25, 26, 27, 28],
     );
-    assert_eq!(rt; SetLack::NoShares.cause().code, 29);
-    assert_eq!(rt;
+    equal(&rt, SetLack::NoShares.cause().code, 29);
+    equal(
+        &rt,
         SetLack::Incomplete {
             complete: 0,
-            required: 1
+            required: 1,
         }
         .cause()
         .code,
-        30
+        30,
     );
 }
 
@@ -303,31 +358,31 @@ fn texts_that_are_no_names(rt: HostRuntime) -> Result<(), Fail> {
         "0.2+0.0", "0.0+0.0", "0.00", "16.0", "", "0.16", "00.0", "0", "0.", ".0", "0.0+", "+0.0",
         "0.0 ", "0.1.2", "0.10+0.2", "1.0+0.0", "0.-1", "0,0", "0.0++0.1", "0.256",
     ] {
-        assert!(rt; matches!(parse_quorum(text.as_bytes()), Err(BadCursor)));
-        assert!(rt; matches!(parse_names(text.as_bytes()), Err(BadNames)));
+        holds(&rt, matches!(parse_quorum(text.as_bytes()), Err(BadCursor)));
+        holds(&rt, matches!(parse_names(text.as_bytes()), Err(BadNames)));
     }
     let text = b"0.2+0.10+9.15+10.0+15.9";
     let names = [(0, 2), (0, 10), (9, 15), (10, 0), (15, 9)];
-    assert_eq!(rt; parse_quorum(text)?.pairs(), names.as_slice());
-    assert_eq!(rt; parse_names(text)?.pairs(), names.as_slice());
-    assert_eq!(rt; BadCursor.cause().code, 61);
-    assert_eq!(rt; BadNames.cause().code, 63);
+    equal(&rt, parse_quorum(text)?.pairs(), names.as_slice());
+    equal(&rt, parse_names(text)?.pairs(), names.as_slice());
+    equal(&rt, BadCursor.cause().code, 61);
+    equal(&rt, BadNames.cause().code, 63);
     Ok(())
 }
 
 #[test]
 fn what_is_at_hand(rt: HostRuntime) -> Result<(), Fail> {
-    assert_eq!(rt; status_of(&ShareSet::new()), None);
-    assert!(rt; group_status_of(&ShareSet::new(), 0).is_none());
+    equal(&rt, status_of(&ShareSet::new()), None);
+    holds(&rt, group_status_of(&ShareSet::new(), 0).is_none());
     for (required, enough) in [(1, true), (2, true), (3, false)] {
         let mut set = three_groups(required)?;
         let status = Status {
             complete: 2,
             required,
         };
-        assert_eq!(rt; set.add(zeros(required, 3, 2, 1)?), Ok(Added::Repeat));
-        assert_eq!(rt; status_of(&set), Some(status));
-        assert_eq!(rt; status.is_enough(), enough);
+        equal(&rt, set.add(zeros(required, 3, 2, 1)?), Ok(Added::Repeat));
+        equal(&rt, status_of(&set), Some(status));
+        equal(&rt, status.is_enough(), enough);
         for (group, threshold, names) in [
             (0, 2, [(0, 0), (0, 5), (0, 15)].as_slice()),
             (3, 2, [(3, 1)].as_slice()),
@@ -336,11 +391,11 @@ fn what_is_at_hand(rt: HostRuntime) -> Result<(), Fail> {
             let Some(status) = group_status_of(&set, group) else {
                 return Err(Fail::new("the group has shares"));
             };
-            assert_eq!(rt; (status.group, status.threshold), (group, threshold));
-            assert_eq!(rt; status.names.pairs(), names);
+            equal(&rt, (status.group, status.threshold), (group, threshold));
+            equal(&rt, status.names.pairs(), names);
         }
         for group in [1, 2, 4, 14] {
-            assert!(rt; group_status_of(&set, group).is_none());
+            holds(&rt, group_status_of(&set, group).is_none());
         }
     }
     Ok(())

@@ -1,5 +1,6 @@
 //! Tests of the steps of `s39_set` from a quorum to the next.
 use crate::set::{three_groups, zeros};
+use s39_expect::{equal, holds};
 use s39_set::{Looks, NotAQuorum, ShareSet, first, next_after, parse_quorum};
 use std::alloc::Allocator;
 use std::process::Abort;
@@ -43,12 +44,12 @@ fn walk(rt: &impl Abort, set: &ShareSet, texts: &[&str]) -> Result<(), Fail> {
         let Some(current) = quorum else {
             return Err(Fail::new("a quorum too few"));
         };
-        assert_eq!(rt; current.pairs(), parse_quorum(text.as_bytes())?.pairs());
+        equal(rt, current.pairs(), parse_quorum(text.as_bytes())?.pairs());
         let mut looks = Looks::new();
         quorum = next_after(set, &current, &mut looks)?;
-        assert!(rt; looks.count() <= 16384);
+        holds(rt, looks.count() <= 16384);
     }
-    assert!(rt; quorum.is_none());
+    holds(rt, quorum.is_none());
     Ok(())
 }
 
@@ -92,10 +93,10 @@ fn names_that_are_no_quorum(rt: HostRuntime) -> Result<(), Fail> {
     for text in ["0.0", "0.0+0.5+15.3", "3.1", "0.0+0.1", "15.3+15.4"] {
         let mut looks = Looks::new();
         let next = next_after(&set, &parse_quorum(text.as_bytes())?, &mut looks);
-        assert!(rt; matches!(next, Err(NotAQuorum)));
-        assert!(rt; looks.count() <= 16384);
+        holds(&rt, matches!(next, Err(NotAQuorum)));
+        holds(&rt, looks.count() <= 16384);
     }
-    assert_eq!(rt; NotAQuorum.cause().code, 62);
+    equal(&rt, NotAQuorum.cause().code, 62);
     Ok(())
 }
 
@@ -117,9 +118,10 @@ fn eight_from<A: Allocator>(alloc: A, from: u8) -> Result<String<A>, Fail> {
 fn steps_of_the_largest_set(rt: HostRuntime) -> Result<(), Fail> {
     let set = eight_of_sixteen()?;
     let mut quorum = first(&set)?;
-    assert_eq!(rt;
+    equal(
+        &rt,
         quorum.pairs(),
-        parse_quorum(eight_from(rt.alloc(), 0)?.as_bytes())?.pairs()
+        parse_quorum(eight_from(rt.alloc(), 0)?.as_bytes())?.pairs(),
     );
     for last in [8, 9] {
         let mut looks = Looks::new();
@@ -127,13 +129,16 @@ fn steps_of_the_largest_set(rt: HostRuntime) -> Result<(), Fail> {
             return Err(Fail::new("a quorum too few"));
         };
         quorum = next;
-        assert!(rt; looks.count() <= 16384);
-        assert_eq!(rt; quorum.pairs().len(), 128);
-        assert_eq!(rt; quorum.pairs().last().copied(), Some((15, last)));
+        holds(&rt, looks.count() <= 16384);
+        equal(&rt, quorum.pairs().len(), 128);
+        equal(&rt, quorum.pairs().last().copied(), Some((15, last)));
     }
     let mut looks = Looks::new();
     let greatest = parse_quorum(eight_from(rt.alloc(), 8)?.as_bytes())?;
-    assert!(rt; matches!(next_after(&set, &greatest, &mut looks), Ok(None)));
-    assert!(rt; looks.count() <= 16384);
+    holds(
+        &rt,
+        matches!(next_after(&set, &greatest, &mut looks), Ok(None)),
+    );
+    holds(&rt, looks.count() <= 16384);
     Ok(())
 }
