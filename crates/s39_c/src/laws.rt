@@ -52,8 +52,8 @@ use s39_kdf::laws::{
     undoing_keeps_length_and_bytes, undone_rounds_decrypt,
 };
 use s39_reading::laws::{
-    one_decryption, one_encrypted_secret, one_exponent, one_recover_output,
-    one_round, shares_have_the_exponent,
+    one_decryption, one_encrypted_secret, one_exponent, one_recover_output, one_round,
+    shares_have_the_exponent,
 };
 use s39_repair::laws::one_answer;
 use s39_set::laws::{one_first_quorum, one_lack, quorums_are_counted, written_forms};

@@ -14,7 +14,7 @@ use crate::messages::Messages;
 use crate::notes::{NEW_SECRET, Notes, SHOWN, TYPING, is_attended, tells_of_drawing};
 use crate::random_file::{NoRandom, random_of};
 use crate::telling::{REASON_BYTES, no_memory_left, report, say_of_file, tell_answer, unbegun};
-use crate::values::{NoValue, Secrets, Shelf, NoFileValue, Values};
+use crate::values::{NoFileValue, NoValue, Secrets, Shelf, Values};
 use crate::work::{NoWork, Work};
 use s39_command::{BadValues, Job, NoJob, read_words};
 use s39_tool::{Plan, Watch};

@@ -22,7 +22,7 @@ use crate::laws::each_mnemonic_is_a_line;
 use arrayvec::ArrayVec;
 use s39_backup::{Created, Options, Plan, create};
 use s39_input::{
-    Counting, DeviceFailure, Fault, Line, PIECE, Refusal, TooShort, NoOutput, WriteFailed,
+    Counting, DeviceFailure, Fault, Line, NoOutput, PIECE, Refusal, TooShort, WriteFailed,
     WrittenLines, line_of, put_lines, write_lines,
 };
 use s39_kdf::{check_passphrase, check_secret};

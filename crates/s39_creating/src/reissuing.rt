@@ -15,7 +15,7 @@ use crate::laws::created_backups_reissue;
 use s39_backup::{Created, Plan, is_of_plan, reissue};
 use s39_input::laws::every_input_is_read;
 use s39_input::{
-    Counting, DeviceFailure, Fault, Refusal, NoOutput, WrittenLines, read_set, set_in,
+    Counting, DeviceFailure, Fault, NoOutput, Refusal, WrittenLines, read_set, set_in,
 };
 use s39_set::{Quorum, SetLack, ShareSet};
 use std::io::{Read, Write};

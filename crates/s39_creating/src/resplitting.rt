@@ -10,7 +10,7 @@ use crate::creating::{put_answer, write_mnemonics};
 use crate::resplit_laws::created_backups_are_split_anew;
 use s39_backup::{Created, Plan, create_from_encrypted, resplit};
 use s39_input::{
-    Counting, DeviceFailure, Fault, Refusal, NoOutput, WrittenLines, read_set, set_in,
+    Counting, DeviceFailure, Fault, NoOutput, Refusal, WrittenLines, read_set, set_in,
 };
 use s39_kdf::{Params, check_secret};
 use s39_set::ShareSet;

@@ -15,7 +15,7 @@ ghost use Rattle.s39_drilling.specs.Slices.{Lists, IsTried, Fills};
 use crate::drill::{following, last_line, mismatch_in, outcome_of, quorum_line, start_of};
 use crate::laws::drill_laws;
 use s39_backup::{Memo, params_of};
-use s39_input::{Fault, Line, SecretForm, TooShort, NoOutput, checked_set_in, put};
+use s39_input::{Fault, Line, NoOutput, SecretForm, TooShort, checked_set_in, put};
 use s39_set::laws::listings_join;
 use s39_set::{Looks, Quorum, ShareSet};
 

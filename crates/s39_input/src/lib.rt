@@ -39,4 +39,4 @@ pub use repair::{REPAIRED_BYTES, RepairedLines, lines_of_repaired, run_repair};
 pub use s39_kdf::SecretForm;
 pub use secret_form::{is_unexpected, push_secret};
 pub use show::run_show;
-pub use slices::{TooShort, NoOutput, WrittenLines, put};
+pub use slices::{NoOutput, TooShort, WrittenLines, put};

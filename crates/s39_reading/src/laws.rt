@@ -18,8 +18,8 @@ ghost use Rattle.s39_reading.specs.Recover.{RecoversCreated};
 pub use crate::encrypted::{one_decryption, one_encrypted_secret, recoveries_are_decryptions};
 pub use crate::exponent::{one_exponent, shares_have_the_exponent};
 pub use crate::length_laws::{statuses_are_short, statuses_of_sets_are_short};
-pub use crate::rounds::one_round;
 pub use crate::round_trips::{one_output_of_a_backup, written_mnemonics_recover};
+pub use crate::rounds::one_round;
 use s39_backup::laws::{every_quorum_has_an_outcome, every_quorum_recovers, one_outcome};
 use s39_input::laws::{
     accepted_inputs_are_share_sets, every_input_is_read, mnemonics_of_a_backup_are_a_set,

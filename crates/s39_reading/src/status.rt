@@ -10,7 +10,7 @@ ghost use Rattle.s39_input.specs.Accepted.{IsReadAs};
 ghost use Rattle.s39_reading.specs.Status.{IsStatusOf, IsStatusOutput, first_line, group_line, group_text, lines_of_status, status_text};
 
 use s39_input::{
-    Counting, DeviceFailure, Fault, Line, Refusal, NoOutput, push_field, push_names, put_lines,
+    Counting, DeviceFailure, Fault, Line, NoOutput, Refusal, push_field, push_names, put_lines,
     read_set, set_in, write_lines,
 };
 use s39_set::{GroupStatus, MAX_GROUPS, SetLack, ShareSet, Status, group_status_of, status_of};
