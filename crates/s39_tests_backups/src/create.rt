@@ -1,7 +1,7 @@
 //! The worked examples of `create`, from the command line to the mnemonics or the message, and the status.
 
+use crate::expect::equal;
 use crate::expected::{expect_lines, expect_refusal};
-use s39_expect::equal;
 use s39_fixtures::{
     EXTENDABLE_ONE_OF_ONE, FIVE, LONGEST_ONE_OF_ONE, LONGEST_ONE_OF_ONE_SECRET, ONE_OF_ONE,
     ONE_OF_ONE_256_BITS, RANDOM, RECOVER, SECRET, SHOW, create, expect_bytes, expect_run, lines,

@@ -1,7 +1,7 @@
 //! The worked examples of `drill`, from the command line to the lines and the status.
 
 use crate::create::MOST;
-use s39_expect::equal;
+use crate::expect::equal;
 use s39_fixtures::{
     DRILL, FIVE, ONE_OF_ONE, ONE_OF_ONE_SECRET, QUORUMS_OF_FIVE, RANDOM, SECRET,
     TWO_NEEDED_MEMBER_0, TWO_NEEDED_MEMBER_2, create, expect_bytes, expect_run, forged, lines,

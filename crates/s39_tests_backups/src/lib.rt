@@ -7,6 +7,8 @@ mod create;
 #[cfg(test)]
 mod drill;
 #[cfg(test)]
+mod expect;
+#[cfg(test)]
 mod expected;
 #[cfg(test)]
 mod many;

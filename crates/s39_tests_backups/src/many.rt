@@ -1,6 +1,6 @@
 //! A backup with an exponent above 3, and a drill of more quorums than it lists by itself.
 
-use s39_expect::{equal, holds};
+use crate::expect::{equal, holds};
 use s39_fixtures::{SECRET, run_on};
 use sha2::{Digest, Sha256};
 use std::test::Fail;

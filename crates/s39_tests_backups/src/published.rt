@@ -1,6 +1,6 @@
 //! The vectors published for SLIP-0039, through `recover` and `drill`, with their mnemonics in both orders.
 
-use s39_expect::equal;
+use crate::expect::equal;
 use s39_fixtures::{DRILL, RECOVER, expect_run};
 use std::alloc::{AllocError, Global};
 use std::process::Abort;

@@ -1,6 +1,6 @@
 //! The worked examples of `recover`, from the command line to the secret or the message, and the status.
 
-use s39_expect::{equal, holds};
+use crate::expect::{equal, holds};
 use s39_fixtures::{
     EXTENDABLE_ONE_OF_ONE, LONGEST_ONE_OF_ONE, LONGEST_ONE_OF_ONE_SECRET, ONE_OF_ONE,
     ONE_OF_ONE_256_BITS, ONE_OF_ONE_EXTENDABLE_MEMBER_1, ONE_OF_ONE_SECRET, RECOVER,

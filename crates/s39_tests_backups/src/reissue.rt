@@ -1,8 +1,8 @@
 //! The worked examples of `status` and `reissue`, from the command line to the lines, the message and the status.
 
 use crate::create::MOST;
+use crate::expect::equal;
 use crate::expected::{expect_lines, expect_refused_lines};
-use s39_expect::equal;
 use s39_fixtures::{FIVE, SECRET, create, expect_bytes, expect_run, forged, lines, run_on};
 use sha2::{Digest, Sha256};
 use std::test::Fail;

@@ -2,7 +2,7 @@
 //! mnemonics.
 
 use crate::create::MOST;
-use s39_expect::equal;
+use crate::expect::equal;
 use s39_fixtures::{expect_over, lines, run_over};
 use sha2::{Digest, Sha256};
 use std::test::Fail;

@@ -1,7 +1,7 @@
 //! The command line.
 
+use crate::expect::{equal, holds};
 use s39_command::{Call, Job, NoJob, Texts, read_words};
-use s39_expect::{equal, holds};
 use s39_fixtures::devices::Full;
 use s39_fixtures::{ONE_OF_ONE, WRITE_FAILED_LINE, expect_told, run_on};
 use s39_input::SecretForm;

@@ -4,6 +4,8 @@
 #[cfg(test)]
 mod command_line;
 #[cfg(test)]
+mod expect;
+#[cfg(test)]
 mod random_files;
 #[cfg(test)]
 mod statuses;

@@ -1,10 +1,10 @@
 //! The file of random bytes in the words of `resplit`.
 
 use crate::command_line::{NONE, call, expect_calls, expect_refusals};
+use crate::expect::equal;
 use crate::value_files::expect_bad_values;
 use s39_cli::{Messages, Unwatched, program};
 use s39_command::{BadValues, Call, Job};
-use s39_expect::equal;
 use s39_fixtures::NO_TERMINAL;
 use s39_fixtures::shelves::Halted;
 use std::io::ErrorKind;

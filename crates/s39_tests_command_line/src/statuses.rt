@@ -1,7 +1,7 @@
 //! Exit statuses: help, the version, refused command lines, flushing, a failing standard error, and no memory.
 
+use crate::expect::equal;
 use s39_cli::{Messages, no_words};
-use s39_expect::equal;
 use s39_fixtures::devices::Full;
 use s39_fixtures::{
     ONE_OF_ONE, ONE_OF_ONE_BAD_CHECKSUM, SHOW, SHOWN, WRITE_FAILED_LINE, expect_flushed,

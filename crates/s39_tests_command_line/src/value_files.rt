@@ -1,9 +1,9 @@
 //! The files of values in the words of a command line.
 
 use crate::command_line::{NONE, expect_calls, expect_refusals, passphrase, secret};
+use crate::expect::equal;
 use s39_cli::{Messages, Unwatched, program};
 use s39_command::{BadValues, Call, Job, NoJob, Texts, read_words};
-use s39_expect::equal;
 use s39_fixtures::shelves::Halted;
 use s39_fixtures::{NO_TERMINAL, ONE_OF_ONE, ONE_OF_ONE_SECRET, expect_over, run_on};
 use s39_input::SecretForm;

@@ -3,7 +3,7 @@
 use crate::commands::{
     COMMANDS, Command, Example, READ_FAILED, Told, WRITE_FAILED, example_of, outcome_of, told,
 };
-use s39_expect::{equal, equal_for, holds, holds_for};
+use crate::expect::{equal, equal_for, holds, holds_for};
 use s39_fixtures::devices::{FailingAtFirst, Filling, Full, Interrupted, Source};
 use s39_fixtures::{
     ONE_OF_ONE, ONE_OF_ONE_BAD_CHECKSUM, ONE_OF_ONE_BAD_PADDING, ONE_OF_ONE_TWO_WORDS_LOST, SHOW,

@@ -1,8 +1,8 @@
 //! What is handed on: a failed flush, a write that the system interrupts, whole pieces; and that nothing behind a line is
 //! asked for before the line is taken.
 
+use crate::expect::{equal, equal_for};
 use s39_cli::Destination;
-use s39_expect::{equal, equal_for};
 use s39_fixtures::devices::{
     FailingAtFirst, Filling, Flushing, Full, Interrupted, SlowLine, Source,
 };

@@ -1,8 +1,8 @@
 //! What a person is told while a drill lists.
 
+use crate::expect::{equal, equal_for};
 use crate::person::{Screen, TOLD, run};
 use s39_cli::{Destination, DrillProgress, Source, Terminals, Watch};
-use s39_expect::{equal, equal_for};
 use s39_fixtures::{ALL_TERMINALS, FIVE, NO_TERMINAL, drilled, lines};
 use std::alloc::Global;
 use std::process::Abort;

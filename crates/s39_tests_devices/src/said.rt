@@ -1,8 +1,8 @@
 //! What a person at a terminal is told, and that a message is one write.
 
+use crate::expect::{equal, equal_for, holds_for};
 use crate::person::{Screen, TOLD, run};
 use s39_cli::{Destination, Source, Terminals};
-use s39_expect::{equal, equal_for, holds_for};
 use s39_fixtures::{
     FIVE, NO_TERMINAL, ONE_OF_ONE, ONE_OF_ONE_BAD_CHECKSUM, TWO_NEEDED_MEMBER_0,
     TWO_NEEDED_MEMBER_2, forged, lines,

@@ -1,7 +1,7 @@
 //! A terminal: what is typed behind a fault is dropped, and random bytes aren't typed.
 
+use crate::expect::{equal, equal_for};
 use s39_cli::{Destination, Messages, Terminals, Unwatched, Watched, program, with_rest_dropped};
-use s39_expect::{equal, equal_for};
 use s39_fixtures::devices::{Full, Halting, Source};
 use s39_fixtures::shelves::NoFiles;
 use s39_fixtures::{

@@ -1,5 +1,5 @@
 //! Tests of `fit` of `s39_split`: random bytes by which splits have known shares. A plain program in Python computes the values.
-use s39_expect::equal;
+use crate::expect::equal;
 use s39_kdf::Bytes;
 use s39_split::{fit, split};
 use std::test::Fail;

@@ -5,6 +5,8 @@
 #[cfg(test)]
 mod cipher;
 #[cfg(test)]
+mod expect;
+#[cfg(test)]
 mod field;
 #[cfg(test)]
 mod fitting;

@@ -1,7 +1,7 @@
 //! What each byte stands for: every one of the 256 in the place of a byte of a text.
 
+use crate::expect::equal_for;
 use s39_backup::Plan;
-use s39_expect::equal_for;
 use s39_fixtures::{ONE_OF_ONE, SHOW, create, run_on};
 use s39_kdf::{BadPassphrase, check_passphrase};
 use s39_set::parse_quorum;

@@ -4,6 +4,8 @@
 #[cfg(test)]
 mod bytes;
 #[cfg(test)]
+mod expect;
+#[cfg(test)]
 mod numbers;
 #[cfg(test)]
 mod show;

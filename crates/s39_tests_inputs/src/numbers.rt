@@ -1,6 +1,6 @@
 //! The numbers that documents and header promise.
 
-use s39_expect::equal;
+use crate::expect::equal;
 use s39_kdf::{MAX_EXPONENT, MAX_SECRET_BYTES, MIN_SECRET_BYTES};
 use s39_set::{MAX_GROUPS, MAX_MEMBERS, MAX_NAMES, MAX_STEP_LOOKS, MAX_TEST_LOOKS};
 use s39_words::MAX_TEXT_BYTES;

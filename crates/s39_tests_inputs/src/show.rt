@@ -1,6 +1,6 @@
 //! The worked examples of `show`.
 
-use s39_expect::{equal, holds};
+use crate::expect::{equal, holds};
 use s39_fixtures::devices::Source;
 use s39_fixtures::{
     EXTENDABLE_ONE_OF_ONE, EXTENDABLE_ONE_OF_ONE_SHOWN, EXTENDABLE_TWO_WORDS_EXCHANGED,

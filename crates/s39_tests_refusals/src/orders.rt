@@ -1,7 +1,7 @@
 //! Where two causes apply at once, the first of their order is answered. The mnemonics have values of zeros, where
 //! nothing else is said; another program computes their words.
 
-use s39_expect::equal_for;
+use crate::expect::equal_for;
 use s39_fixtures::devices::Source;
 use s39_fixtures::{ONE_OF_ONE, REPAIR, SECRET, create, expect_run, expect_told, lines};
 use std::alloc::Global;

@@ -1,7 +1,7 @@
 //! The texts of faults.
 
+use crate::expect::{equal, holds};
 use s39_backup::{Mismatch, PlanError, TooFew};
-use s39_expect::{equal, holds};
 use s39_fixtures::{REPAIR, expect_run};
 use s39_input::{LineRefusal, Refusal};
 use s39_kdf::{BadFingerprint, BadPassphrase};

@@ -1,11 +1,11 @@
 //! The examples of the doc comments of `s39_creating`, line for line. The values come from published vectors, or from a plain reading of
 //! the standard in Python.
+use crate::expect::{equal, holds};
 use s39_backup::{Options, Plan};
 use s39_creating::{
     create_lines, lines_from_encrypted, reissue_lines, resplit_lines, run_create, run_reissue,
     run_resplit,
 };
-use s39_expect::{equal, holds};
 use s39_input::Counting;
 use s39_kdf::Params;
 use s39_set::parse_names;

@@ -1,7 +1,7 @@
 //! The examples of the doc comments of `s39_drilling`, line for line. The values come from published vectors, or from a plain reading of
 //! the standard in Python.
+use crate::expect::{equal, holds};
 use s39_drilling::{Unwatched, drill_lines, drill_set, list_from, run_drill, start_of};
-use s39_expect::{equal, holds};
 use s39_input::{Counting, SecretForm, checked_set_in};
 use std::alloc::AllocGlobal;
 use std::process::Abort;

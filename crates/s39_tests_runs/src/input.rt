@@ -1,6 +1,6 @@
 //! Tests of `s39_input`: repairs, and the examples of its doc comments, line for line. The values come from published vectors,
 //! or from a plain reading of the standard in Python; an independent program computed what fits.
-use s39_expect::{equal, holds};
+use crate::expect::{equal, holds};
 use s39_input::{Counting, Fault, put, read_hex, run_repair, run_show, write_hex};
 use std::alloc::AllocGlobal;
 use std::process::Abort;

@@ -1,6 +1,6 @@
 //! Tests of `judge`, and of the status of the set that it gives. The mnemonics are those of published vectors, or a plain reading of
 //! the standard in Python made them, which also tells each status.
-use s39_expect::{equal, holds};
+use crate::expect::{equal, holds};
 use s39_input::{Fault, judge};
 use s39_reading::set_status;
 use std::process::Abort;

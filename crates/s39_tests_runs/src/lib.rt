@@ -6,6 +6,8 @@ mod creating;
 #[cfg(test)]
 mod drilling;
 #[cfg(test)]
+mod expect;
+#[cfg(test)]
 mod input;
 #[cfg(test)]
 mod judging;

@@ -1,6 +1,6 @@
 //! The examples of the doc comments of `s39_reading`, line for line. The values come from published vectors, or from a plain reading of
 //! the standard in Python.
-use s39_expect::{equal, holds};
+use crate::expect::{equal, holds};
 use s39_input::{Counting, SecretForm, checked_set_in};
 use s39_kdf::{Params, parse_fingerprint};
 use s39_reading::{

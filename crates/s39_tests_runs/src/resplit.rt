@@ -1,7 +1,7 @@
 //! Tests of `run_resplit`, `resplit_lines` and `lines_from_encrypted`. A plain reading of the standard in Python computed the mnemonics.
+use crate::expect::{equal, holds};
 use s39_backup::Plan;
 use s39_creating::{lines_from_encrypted, resplit_lines, run_resplit};
-use s39_expect::{equal, holds};
 use s39_input::{Counting, NoOutput};
 use s39_kdf::Params;
 use s39_reading::encrypted_in;

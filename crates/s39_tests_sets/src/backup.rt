@@ -1,10 +1,10 @@
 //! Tests of `s39_backup`: plans, created backups, the memo, and the examples of its doc comments. The values come from
 //! published vectors, or from a plain reading of the standard in Python.
+use crate::expect::{equal, holds};
 use s39_backup::{
     CreateError, Created, Members, Memo, Options, Plan, PlanError, RecoverError, combine_quorum,
     create, is_of_plan, params_of, recover_by, recover_quorum, reissue,
 };
-use s39_expect::{equal, holds};
 use s39_kdf::{Bytes, Params};
 use s39_set::{ShareSet, first, parse_quorum};
 use s39_words::{parse, print};

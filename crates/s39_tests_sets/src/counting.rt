@@ -1,6 +1,6 @@
 //! Tests of how many quorums a set has. The counts are from Python: sums of products of `math.comb`.
+use crate::expect::equal;
 use crate::set::zeros;
-use s39_expect::equal;
 use s39_set::{ShareSet, quorum_count_of};
 use std::test::Fail;
 

@@ -7,6 +7,8 @@ mod backup;
 #[cfg(test)]
 mod counting;
 #[cfg(test)]
+mod expect;
+#[cfg(test)]
 mod refitting;
 #[cfg(test)]
 mod reissue;

@@ -1,6 +1,6 @@
 //! Tests of `refit` of `s39_backup`: backups of two secrets that have some mnemonics in common.
+use crate::expect::{equal, holds};
 use s39_backup::{Created, Options, Plan, create, refit};
-use s39_expect::{equal, holds};
 use s39_set::parse_quorum;
 use s39_words::print;
 use std::test::Fail;

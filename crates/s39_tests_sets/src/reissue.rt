@@ -1,7 +1,7 @@
 //! Tests of `s39_backup`: shares computed from others of their backup, with mnemonics that another program computed: of a secret of 16 bytes
 //! and a passphrase, with the random bytes 0, 1 and so on.
+use crate::expect::{equal, holds};
 use s39_backup::{Mismatch, Plan, ReissueError, TooFew, is_of_plan, reissue};
-use s39_expect::{equal, holds};
 use s39_set::ShareSet;
 use s39_words::{parse, print};
 use std::test::Fail;

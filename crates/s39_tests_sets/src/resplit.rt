@@ -1,9 +1,9 @@
 //! Tests of `s39_backup`: encrypted secrets that are split. A plain reading of the standard in Python computed the mnemonics, of
 //! backups that it created and of new ones, and the secrets that both recover with each passphrase.
+use crate::expect::{equal, holds};
 use s39_backup::{
     Created, Mismatch, Plan, ResplitError, create_from_encrypted, recover_by, resplit,
 };
-use s39_expect::{equal, holds};
 use s39_kdf::{Params, check_secret};
 use s39_set::{SetLack, ShareSet, parse_quorum};
 use s39_words::{parse, print};

@@ -6,8 +6,8 @@ ghost use Rattle.s39_split.specs.Sharing.{most_shares, secret_place, IsSplit};
 ghost use Rattle.s39_split.specs.Completion.{ArePointsOf};
 ghost use Rattle.s39_split.specs.Shares.{indexed_bytes, AreDistinct, HaveOneLength};
 
+use crate::expect::{equal, holds};
 use s39_backup::{Created, Options, Plan, create, refit};
-use s39_expect::{equal, holds};
 use s39_kdf::{Bytes, Params, encrypt};
 use s39_set::parse_quorum;
 use s39_split::{SECRET_PLACE, complete};

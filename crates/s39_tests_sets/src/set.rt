@@ -1,5 +1,5 @@
 //! Tests of `s39_set`, and the examples of its doc comments.
-use s39_expect::{equal, holds};
+use crate::expect::{equal, holds};
 use s39_kdf::check_secret;
 use s39_set::{
     Added, BadCursor, BadNames, Looks, SetError, SetLack, ShareSet, Status, first, group_status_of,

@@ -1,6 +1,6 @@
 //! Tests of the steps of `s39_set` from a quorum to the next.
+use crate::expect::{equal, holds};
 use crate::set::{three_groups, zeros};
-use s39_expect::{equal, holds};
 use s39_set::{Looks, NotAQuorum, ShareSet, first, next_after, parse_quorum};
 use std::alloc::Allocator;
 use std::process::Abort;

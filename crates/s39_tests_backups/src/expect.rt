@@ -1,0 +1,14 @@
+//! Comparisons in tests, which are proved sooner as calls than where they stand (DECISIONS.md, "Tests").
+
+use std::fmt::Debug;
+use std::process::Abort;
+
+/// Stops the test if the two differ.
+pub(crate) fn equal<T: PartialEq + Debug + Copy>(rt: &impl Abort, value: T, wanted: T) {
+    assert_eq!(rt; value, wanted);
+}
+
+/// Stops the test if this isn't so.
+pub(crate) fn holds(rt: &impl Abort, is_so: bool) {
+    assert!(rt; is_so);
+}

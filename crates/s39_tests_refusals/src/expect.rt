@@ -1,0 +1,24 @@
+//! Comparisons in tests, which are proved sooner as calls than where they stand (DECISIONS.md, "Tests").
+
+use std::fmt::Debug;
+use std::process::Abort;
+
+/// Stops the test if the two differ.
+pub(crate) fn equal<T: PartialEq + Debug + Copy>(rt: &impl Abort, value: T, wanted: T) {
+    assert_eq!(rt; value, wanted);
+}
+
+/// Stops the test if the two differ, and names the case.
+pub(crate) fn equal_for<C: Debug + Copy, T: PartialEq + Debug + Copy>(
+    rt: &impl Abort,
+    case: C,
+    value: T,
+    wanted: T,
+) {
+    assert_eq!(rt; value, wanted, "{case:?}");
+}
+
+/// Stops the test if this isn't so.
+pub(crate) fn holds(rt: &impl Abort, is_so: bool) {
+    assert!(rt; is_so);
+}
