@@ -411,6 +411,30 @@ shamir_answer shamir_decrypt(
     size_t passphrase_bytes, const char *expected, size_t expected_bytes, uint8_t *secret, size_t secret_bytes);
 
 /*
+ * Undoes one of the four rounds of the cipher, so that a program can show how far a decryption is, and stop it.
+ *
+ * *parameters and passphrase are as for shamir_decrypt. Call it with the rounds 3, 2, 1 and 0, in this order: first with the encrypted
+ * secret, and then each time with the text that the call before gave. The last text is the secret that shamir_decrypt gives. Each
+ * call takes a quarter of the iterations of shamir_decrypt.
+ *
+ * The text with this round undone goes to the start of undone. written is its length, which is encrypted_bytes. Clear each text:
+ * passphrases can be tried on it with fewer iterations than on the encrypted secret, and after round 1 it ends with the second half of
+ * the secret. The call compares no fingerprint: compare what shamir_fingerprint gives of the secret. It refuses with 1 only after the
+ * iterations.
+ *
+ * The call refuses with the first of these that applies: 2 (a field of *parameters is out of its range, or round is above 3), 41, 42
+ * (encrypted_bytes), 1.
+ *
+ *     uint8_t undone[SHAMIR_SECRET_BYTES_MAX];
+ *     shamir_answer answer = shamir_decrypt_round(
+ *         &parameters, 3, encrypted, encrypted_bytes, "TREZOR", 6, undone, sizeof undone);
+ */
+SHAMIR_CALL SHAMIR_STRUCT(1)
+shamir_answer shamir_decrypt_round(
+    const shamir_parameters *parameters, uint8_t round, const uint8_t *encrypted, size_t encrypted_bytes, const char *passphrase,
+    size_t passphrase_bytes, uint8_t *undone, size_t undone_bytes);
+
+/*
  * Runs a drill: the call tries the quorums of mnemonics, and lists what each of them recovers.
  *
  * lines, passphrase and max_exponent are as for shamir_recover. The cursor is the parameter named "after". If it is empty, the
@@ -916,8 +940,8 @@ SHAMIR_INLINE SHAMIR_STRUCT(1) shamir_answer shamir_papers_recover(
  * Every exponent is allowed.
  *
  * shamir_drill_next goes on to the next quorum, and returns 1. If no quorum is left, or if the library refuses, it returns 0, and the
- * field answer says which. The refusals are those of shamir_drill. A program can stop after each quorum, whose names are the cursor
- * with which shamir_drill goes on.
+ * field answer says which. The refusals are those of shamir_drill. A program can stop after each quorum. A later drill goes on after
+ * it if the field names gets its names before the first shamir_drill_next. It counts from 1, unless the field number gets another number.
  *
  * These functions stand in the header alone.
  *
@@ -972,7 +996,7 @@ SHAMIR_INLINE SHAMIR_STRUCT(1) int shamir_drill_list(shamir_drilling *drilling)
         drilling->answer = listed;
         return 0;
     }
-    if (drilling->number == 0) {
+    if (drilling->quorums == 0) {
         drilling->answer = shamir_quorums(drilling->lines, drilling->lines_bytes);
         drilling->quorums = drilling->answer.first;
     }

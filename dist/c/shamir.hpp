@@ -203,6 +203,17 @@ inline Names names(Text text)
     return found;
 }
 
+} // namespace detail
+
+/* Reads names in the form of to_text, such as the cursor of an earlier drill. Returns nothing if the text has another form. */
+inline std::optional<Names> names_in(Text text)
+{
+    const Names found = detail::names(text);
+    return to_text(found) == text ? std::optional(found) : std::nullopt;
+}
+
+namespace detail {
+
 /* Makes a call with room for its output. Returns what it writes, in memory of this length. */
 template <class Unit, class Call> Answer<Cleared<Unit>> written(std::size_t room, const Call &call)
 {
@@ -477,6 +488,36 @@ inline Answer<Secret> decrypt(const EncryptedSecret &secret, const DecryptOption
             &secret, secret.value.data(), secret.value.size(), options.passphrase.data(), options.passphrase.size(), expected.data(),
             expected.size(), room, size);
     });
+}
+
+/* Undoes one round of the cipher, and gives the text. With the rounds 3, 2, 1 and 0, each with the text of the one before as its value,
+   it gives the secret. */
+inline Answer<Secret> decrypt_round(const EncryptedSecret &secret, std::uint8_t round, Text passphrase = {})
+{
+    return detail::written<std::uint8_t>(SHAMIR_SECRET_BYTES_MAX, [&](std::uint8_t *room, std::size_t size) {
+        return shamir_decrypt_round(
+            &secret, round, secret.value.data(), secret.value.size(), passphrase.data(), passphrase.size(), room, size);
+    });
+}
+
+/* Decrypts round by round. After each of the first three rounds, go_on(undone) gets how many of the four are undone, and returns
+   whether to go on. If it stops, there is no secret. No fingerprint is compared. */
+template <class GoOn> Answer<std::optional<Secret>> decrypt_rounds(const EncryptedSecret &secret, Text passphrase, GoOn &&go_on)
+{
+    EncryptedSecret text = secret;
+    for (unsigned undone = 1;; undone++) {
+        auto found = decrypt_round(text, static_cast<std::uint8_t>(4 - undone), passphrase);
+        if (!found) {
+            return found.error();
+        }
+        text.value = *std::move(found);
+        if (undone == 4) {
+            return std::optional<Secret>(std::move(text.value));
+        }
+        if (!go_on(undone)) {
+            return std::optional<Secret>();
+        }
+    }
 }
 
 namespace detail {

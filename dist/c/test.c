@@ -1090,20 +1090,30 @@ static void check_creation(void)
     expect("shamir_fingerprint", wrote(shamir_fingerprint(secret, bytes, text, sizeof text), "df41d8fe"));
 }
 
-/* Another program computed the encrypted secret. */
+/* Another program computed the encrypted secret, and the texts that the rounds leave. */
 static void check_encrypted(void)
 {
     static const char two[] = FOURTH FIFTH;
+    static const char *const texts[] = {
+        SECRET, "7b3377e2884ece1fba37d9cc21b2cece", "5ba74e3c43bc2c757b3377e2884ece1f", "04447ff0a4a32f695ba74e3c43bc2c75"};
     uint8_t right[SHAMIR_SECRET_BYTES_MAX], value[SHAMIR_SECRET_BYTES_MAX], secret[SHAMIR_SECRET_BYTES_MAX];
     size_t bytes = bytes_of("ae3283670d8226e104447ff0a4a32f69", right);
     shamir_parameters parameters;
     shamir_answer answer = shamir_encrypted(two, strlen(two), &parameters, value, sizeof value);
+    uint8_t round;
 
     expect("shamir_encrypted", answer.code == SHAMIR_DONE && answer.written == bytes && memcmp(value, right, bytes) == 0 &&
            parameters.id == 1 && parameters.extendable == 0 && parameters.exponent == 0);
     answer = shamir_decrypt(&parameters, value, bytes, KEY, strlen(KEY), "df41d8fe", 8, secret, sizeof secret);
     bytes = bytes_of(SECRET, right);
     expect("shamir_decrypt", answer.code == SHAMIR_DONE && answer.written == bytes && memcmp(secret, right, bytes) == 0);
+    for (round = 4; round-- > 0; memcpy(value, secret, bytes)) {
+        answer = shamir_decrypt_round(&parameters, round, value, bytes, KEY, strlen(KEY), secret, sizeof secret);
+        (void)bytes_of(texts[round], right);
+        expect("shamir_decrypt_round", answer.code == SHAMIR_DONE && answer.written == bytes && memcmp(secret, right, bytes) == 0);
+    }
+    answer = shamir_decrypt_round(&parameters, 4, value, bytes, KEY, strlen(KEY), secret, sizeof secret);
+    expect("shamir_decrypt_round with a fifth round", answer.code == SHAMIR_E_OUT_OF_RANGE);
 }
 
 static void check_reading(void)
