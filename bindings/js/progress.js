@@ -34,7 +34,8 @@ export async function* drillWithProgress(engine, lines, options = {}) {
     number++;
     yield { ...outcome, number, quorums };
     if (Date.now() - start < TURN_MILLISECONDS) continue;
-    await new Promise((done) => setTimeout(done));
+    // After a long call, Node takes a timer before it looks at signals, so one turn isn't enough.
+    for (let turn = 0; turn < 2; turn++) await new Promise((done) => setTimeout(done));
     start = Date.now();
   }
 }

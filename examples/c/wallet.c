@@ -63,17 +63,17 @@ static int recover(const char *noted) {
 static int drill(const char *noted, const char *name) {
     FILE *file = fopen(name, "r");
     size_t bytes = file ? fread(own.lines, 1, sizeof own.lines, file) : 0;
-    shamir_drilling drilling = shamir_drill_start(own.lines, bytes, own.key, noted, own.text, sizeof own.text);
+    shamir_drilling run = shamir_drill_start(own.lines, bytes, own.key, noted, own.text, sizeof own.text);
 
     if (!file || !feof(file))
         return fail("the file can't be read, or is too long");
     signal(SIGINT, stop);
-    while (!stopped && shamir_drill_next(&drilling)) {
-        printf("%lu of %lu: %s %sas expected\n", (unsigned long)drilling.number, (unsigned long)drilling.quorums,
-               drilling.names, drilling.as_expected ? "" : "NOT ");
+    while (!stopped && shamir_drill_next(&run)) {
+        printf("%lu of %lu: %s %sas expected\n", (unsigned long)run.number, (unsigned long)run.quorums, run.names,
+               run.as_expected ? "" : "NOT ");
         fflush(stdout);
     }
-    return stopped ? printf("stopped after %s\n", drilling.names) < 0 : tell("", drilling.answer, stderr);
+    return stopped && *run.names ? printf("stopped after %s\n", run.names) < 0 : tell("", run.answer, stderr);
 }
 
 int main(int count, char **words) {

@@ -120,6 +120,28 @@ test("a drill with its progress", async () => {
   assert.deepEqual([last.fingerprint, last.quorums], ["df41d8fe", 12870n]);
 });
 
+test("a signal during a long call stops a drill", async () => {
+  const long = {
+    *drill() {
+      process.kill(process.pid, "SIGUSR2");
+      for (const end = Date.now() + 30; Date.now() < end; );
+      yield { names: "0.0" };
+      yield { names: "0.1" };
+    },
+    quorums: () => 2n,
+  };
+  for (let i = 0; i < 10; i++) {
+    const told = [];
+    let isStopped = false;
+    process.once("SIGUSR2", () => (isStopped = true));
+    for await (const { names } of drillWithProgress(long, "")) {
+      if (isStopped) break;
+      told.push(names);
+    }
+    assert.deepEqual(told, ["0.0"]);
+  }
+});
+
 test("each call in a worker", async () => {
   const shamir = new InWorker(MODULE);
   assert.deepEqual(await shamir.create(PLAN, SECRET, { ...KEY, random: counting(26) }), FIVE);
