@@ -265,7 +265,7 @@ void check_drill()
     expect("a drill that is stopped", stopped && !stopped->ended && stopped->last == shamir::Names{{0, 0}, {0, 2}, {1, 0}}
         && told == "0.0+0.1+1.0 df41d8fe 0.0+0.1+2.0 df41d8fe 0.0+0.2+1.0 df41d8fe ");
     const auto cursor = shamir::names_in("0.0+0.2+1.0");
-    expect("names in a text", *cursor == stopped->last && shamir::names_in("")->empty());
+    expect("names in a text", *cursor == stopped->last && (*shamir::names_in("")).empty());
     for (const auto *other : {"0.0+", "+0.0", "0.0 0.1", "0", "00.1", "-1.0", "0.4294967296", "a.b", "0.0+0.2+1.0\n"}) {
         expect("a text that isn't names", shamir::names_in(other).error().code == SHAMIR_E_BAD_CURSOR);
     }
