@@ -205,11 +205,16 @@ inline Names names(Text text)
 
 } // namespace detail
 
-/* Reads names in the form of to_text, such as the cursor of an earlier drill. Returns nothing if the text has another form. */
-inline std::optional<Names> names_in(Text text)
+/* Reads names in the form of to_text, such as the cursor of an earlier drill. A text in another form is refused (61). */
+inline Answer<Names> names_in(Text text)
 {
-    const Names found = detail::names(text);
-    return to_text(found) == text ? std::optional(found) : std::nullopt;
+    Names found = detail::names(text);
+    if (to_text(found) == text) {
+        return found;
+    }
+    shamir_answer answer = {};
+    answer.code = SHAMIR_E_BAD_CURSOR;
+    return Refusal(answer);
 }
 
 namespace detail {
