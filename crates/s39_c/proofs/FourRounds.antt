@@ -1,6 +1,6 @@
 -- What is decrypted of one round is given in one way, and there is such a way. Four rounds are a decryption.
-use Rattle.std.proofs.Common.{◌≡◌, ◌↔◌, ℕ, ◌≤◌, List, [], length, take, drop, refl, sym, ap, ◌∙◌, subst, inl, inr, arith}
-use Rattle.std.proofs.Common.{All, None, Result, Ok, Err}
+use Rattle.std.proofs.Common.{◌≡◌, ◌↔◌, ℕ, ◌<◌, ◌≤◌, List, [], length, take, drop, refl, sym, ap, ◌∙◌, subst, inl, inr, arith}
+use Rattle.std.proofs.Common.{All, Some, None, Result, Ok, Err}
 use Rattle.std.proofs.lemmas.Bool.{cases_lt}
 use Rattle.std.proofs.lemmas.List.{take-append-le, take_all}
 use Rattle.s39_kdf.specs.Limits.{IsPrintable, IsSecretLength}
@@ -14,8 +14,9 @@ use Rattle.s39_kdf.specs.Rounds.{rounds, IsUndone, UndoneRoundsDecrypt, UndoingK
 use Rattle.s39_reading.specs.Encrypted.{IsRoundDecryption}
 use Rattle.s39_c.specs.declared.answer.ShamirAnswer.{ShamirAnswer}
 use Rattle.s39_c.specs.declared.encrypted.ShamirParameters.{ShamirParameters}
-use Rattle.s39_c.specs.Answers.{done, out_of_range, refused}
-use Rattle.s39_c.specs.Encrypted.{AreParameters, GivesDecrypted}
+use Rattle.s39_kdf.specs.Cipher.{EncryptionKeepsLengthAndBytes}
+use Rattle.s39_c.specs.Answers.{Gives, done, too_short, out_of_range, refused}
+use Rattle.s39_c.specs.Encrypted.{AreParameters, GivesDecrypted, GivesDecryption}
 use Rattle.s39_c.specs.Rounds.{IsRound, GivesDecryptedRound}
 use Rattle.s39_c.proofs.Compositions.{not_done}
 use Rattle.s39_c.proofs.InSteps.{Once, Given, gives_as_once, gives_as_some, step_once, step_some}
@@ -55,6 +56,7 @@ module _ (parameters : ShamirParameters) (round : ℕ) (encrypted passphrase old
   -- what a call gives that writes a text
   given_round : (new : List ℕ) (n : ℕ) → GivesDecryptedRound parameters round encrypted passphrase old new (done n)
       → (params : Params) × AreParameters parameters (Ok params) × IsRoundDecryption round passphrase (params, encrypted) (Ok (take n new))
+      × (length (take n new) ≡ n)
   given_round new n (inl (bad, none, same, says)) =
       let code : 0 ≡ 2 = ap (λ (a : ShamirAnswer). a.code) says in absurd (omega (arith, code))
   given_round new n (inr (params, are, inl (bad, high, same, says))) =
@@ -68,7 +70,7 @@ module _ (parameters : ShamirParameters) (round : ℕ) (encrypted passphrase old
       let above : length undone ≤ n = omega (arith, count) in
       let same : take n new ≡ undone =
       ap (take n) bytes ∙ take-append-le n undone (drop (length undone) old) below ∙ take_all n undone above in
-      (params, are, subst (λ (b : List ℕ). IsRoundDecryption round passphrase (params, encrypted) (Ok b)) (sym same) is)
+      (params, are, subst (λ (b : List ℕ). IsRoundDecryption round passphrase (params, encrypted) (Ok b)) (sym same) is, ap length same ∙ sym count)
 
 -- ---- four rounds
 
@@ -118,15 +120,15 @@ module _ (passphrase : List ℕ) (params : Params) (encrypted : List ℕ) (fault
 
 module _ (parameters : ShamirParameters) (passphrase encrypted : List ℕ) (decrypts : UndoneRoundsDecrypt) (keeps : UndoingKeepsLengthAndBytes)
     (none_unprintable : PrintablePassphrasesHaveNone) where
-  -- what a round gives isn't refused by the next one
-  not_refused : (params : Params) (second first : List ℕ) → IsRoundDecryption 1 passphrase (params, second) (Ok first) → (fault : Fault)
-      → IsRoundDecryption 0 passphrase (params, first) (Err fault) → ⊥
-  not_refused params second first is1 fault (refuses bad unprintable is) =
-      none_unprintable passphrase bad.position (undoes 1 passphrase (params, second) first is1).printable unprintable
-  not_refused params second first is1 fault (gives _ printable (refuses bad (short, many) is)) =
-      let u1 = undoes 1 passphrase (params, second) first is1 in
-      short (subst IsSecretLength (sym (keeps passphrase params 1 second first u1.is_undone).0) u1.long)
-  not_refused params second first is1 fault (gives _ printable (gives _ long (undone, given, is))) = absurd (cc)
+  -- what a round gives isn't refused by another one
+  not_refused : (round next : ℕ) (params : Params) (text undone : List ℕ) → IsRoundDecryption round passphrase (params, text) (Ok undone)
+      → (fault : Fault) → IsRoundDecryption next passphrase (params, undone) (Err fault) → ⊥
+  not_refused round next params text undone is1 fault (refuses bad unprintable is) =
+      none_unprintable passphrase bad.position (undoes round passphrase (params, text) undone is1).printable unprintable
+  not_refused round next params text undone is1 fault (gives _ printable (refuses bad (short, many) is)) =
+      let u1 = undoes round passphrase (params, text) undone is1 in
+      short (subst IsSecretLength (sym (keeps passphrase params round text undone u1.is_undone).0) u1.long)
+  not_refused round next params text undone is1 fault (gives _ printable (gives _ long (other, given, is))) = absurd (cc)
 
   same_params : (p q : Params) → AreParameters parameters (Ok p) → AreParameters parameters (Ok q) → q ≡ p
   same_params p q are also = let both = parameters_once parameters (Ok p) (Ok q) are also in cc
@@ -141,7 +143,7 @@ module _ (parameters : ShamirParameters) (passphrase encrypted : List ℕ) (decr
   last_call params are third second first is3 is2 is1 old new answer (inr (other, also, inl (bad, high, same, says))) = absurd (high (omega arith))
   last_call params are third second first is3 is2 is1 old new answer (inr (other, also, inr (_, low, inl (fault, is, same, says)))) =
       let here = subst (λ (p : Params). IsRoundDecryption 0 passphrase (p, first) (Err fault)) (same_params params other are also) is in
-      absurd (not_refused params second first is1 fault here)
+      absurd (not_refused 1 0 params second first is1 fault here)
   last_call params are third second first is3 is2 is1 old new answer (inr (other, also, inr (_, low, inr (secret, is, given)))) =
       let here = subst (λ (p : Params). IsRoundDecryption 0 passphrase (p, first) (Ok secret)) (same_params params other are also) is in
       let decryption = four_rounds passphrase params decrypts encrypted third second first secret is3 is2 is1 here in
@@ -157,9 +159,107 @@ module _ (parameters : ShamirParameters) (passphrase encrypted : List ℕ) (decr
       let third = take l new3 in
       let second = take m new2 in
       let first = take n new1 in
-      let (p3, are, is3) = given_round parameters 3 encrypted passphrase old3 new3 l call3 in
-      let (p2, are2, is2) = given_round parameters 2 third passphrase old2 new2 m call2 in
-      let (p1, are1, is1) = given_round parameters 1 second passphrase old1 new1 n call1 in
+      let (p3, are, is3, long3) = given_round parameters 3 encrypted passphrase old3 new3 l call3 in
+      let (p2, are2, is2, long2) = given_round parameters 2 third passphrase old2 new2 m call2 in
+      let (p1, are1, is1, long1) = given_round parameters 1 second passphrase old1 new1 n call1 in
       let here2 = subst (λ (p : Params). IsRoundDecryption 2 passphrase (p, third) (Ok second)) (same_params p3 p2 are are2) is2 in
       let here1 = subst (λ (p : Params). IsRoundDecryption 1 passphrase (p, second) (Ok first)) (same_params p3 p1 are are1) is1 in
       last_call p3 are third second first is3 here2 here1 old new answer call0
+
+  -- the next call for a text that a call gave, where there is room
+  next_answer : (next n : ℕ) → next < rounds → (params : Params) → AreParameters parameters (Ok params) → (round : ℕ) (text undone : List ℕ)
+      → IsRoundDecryption round passphrase (params, text) (Ok undone) → length undone ≡ n → (old new : List ℕ) (answer : ShamirAnswer)
+      → n ≤ length old → GivesDecryptedRound parameters next undone passphrase old new answer → answer ≡ done n
+  next_answer next n low params are round text undone is1 long old new answer room (inl (bad, none, same, says)) =
+      let differ = parameters_once parameters (Ok params) (Err bad) are none in absurd (cc)
+  next_answer next n low params are round text undone is1 long old new answer room (inr (other, also, inl (bad, high, same, says))) =
+      absurd (high low)
+  next_answer next n low params are round text undone is1 long old new answer room (inr (other, also, inr (_, _, inl (fault, is, same, says)))) =
+      let here = subst (λ (p : Params). IsRoundDecryption next passphrase (p, undone) (Err fault)) (same_params params other are also) is in
+      absurd (not_refused round next params text undone is1 fault here)
+  next_answer next n low params are round text undone is1 long old new answer room (inr (other, also, inr (_, _, inr (more, is, inr (short, same, says))))) =
+      let u = undoes next passphrase (other, undone) more is in
+      let kept : length more ≡ length undone = (keeps passphrase other next undone more u.is_undone).0 in
+      absurd (omega (arith, kept, long, short, room))
+  next_answer next n low params are round text undone is1 long old new answer room (inr (other, also, inr (_, _, inr (more, is, inl (fits, bytes, says))))) =
+      let u = undoes next passphrase (other, undone) more is in
+      let kept : length more ≡ length undone = (keeps passphrase other next undone more u.is_undone).0 in
+      says ∙ ap done (kept ∙ long)
+
+  -- what a call gave isn't refused by another one, where there is room
+  pub goes_on : (text : List ℕ) (round next n : ℕ) (old1 new1 old new : List ℕ) (answer : ShamirAnswer)
+      → GivesDecryptedRound parameters round text passphrase old1 new1 (done n) → next < rounds → n ≤ length old
+      → GivesDecryptedRound parameters next (take n new1) passphrase old new answer → answer ≡ done n
+  goes_on text round next n old1 new1 old new answer call low room then =
+      let (p, are, is, long) = given_round parameters round text passphrase old1 new1 n call in
+      next_answer next n low p are round text (take n new1) is long old new answer room then
+
+-- ---- the first call
+
+-- texts of one length have one answer in slices of one length
+same_gives : (xs ys old new before after : List ℕ) (answer other : ShamirAnswer) → length xs ≡ length ys → length old ≡ length before
+    → Gives xs old new answer → Gives ys before after other → other ≡ answer
+same_gives xs ys old new before after answer other long room (inl (fits, bytes, says)) (inl (fits2, bytes2, says2)) =
+    says2 ∙ ap done (sym long) ∙ sym says
+same_gives xs ys old new before after answer other long room (inl (fits, bytes, says)) (inr (short, same, says2)) =
+    absurd (omega (arith, fits, short, long, room))
+same_gives xs ys old new before after answer other long room (inr (short, same, says)) (inl (fits, bytes, says2)) =
+    absurd (omega (arith, fits, short, long, room))
+same_gives xs ys old new before after answer other long room (inr (short, same, says)) (inr (short2, same2, says2)) =
+    says2 ∙ ap too_short (sym long) ∙ sym says
+
+module _ (parameters : ShamirParameters) (passphrase encrypted : List ℕ) (keeps : UndoingKeepsLengthAndBytes)
+    (encryption_keeps : EncryptionKeepsLengthAndBytes) (none_unprintable : PrintablePassphrasesHaveNone)
+    (one : (text : Params × List ℕ) → AtMostOne (IsDecryption None passphrase text)) where
+  secret_long : (params : Params) (secret : List ℕ) → IsDecryption None passphrase (params, encrypted) (Ok secret)
+      → length secret ≡ length encrypted
+  secret_long params secret (refuses bad first is) = absurd (cc)
+  secret_long params secret (gives _ printable (refuses bad many is)) = absurd (cc)
+  secret_long params secret (gives _ printable (gives _ long (other, encrypts, is))) =
+      let both : text_of secret ≡ text_of other = is in
+      let same : secret ≡ other = cc in
+      ap length same ∙ sym (encryption_keeps passphrase params other encrypted encrypts).0
+
+  not_both : (params : Params) (undone : List ℕ) → IsRoundDecryption 3 passphrase (params, encrypted) (Ok undone) → (fault : Fault)
+      → IsRoundDecryption 3 passphrase (params, encrypted) (Err fault) → ⊥
+  not_both params undone is fault (refuses bad unprintable says) =
+      none_unprintable passphrase bad.position (undoes 3 passphrase (params, encrypted) undone is).printable unprintable
+  not_both params undone is fault (gives _ printable (refuses bad (short, many) says)) =
+      short (undoes 3 passphrase (params, encrypted) undone is).long
+  not_both params undone is fault (gives _ printable (gives _ long (other, given, says))) = absurd (cc)
+
+  same_answer : (params : Params) (old new before after : List ℕ) (answer other : ShamirAnswer) → length old ≡ length before
+      → GivesDecryption (IsDecryption None passphrase (params, encrypted)) old new answer
+      → GivesDecryption (IsRoundDecryption 3 passphrase (params, encrypted)) before after other → other ≡ answer
+  same_answer params old new before after answer other room (inl (fault, is, same, says)) (inl (fault2, is2, same2, says2)) =
+      let both = one (params, encrypted) (Err fault) (Err fault2) is (of_round passphrase params encrypted fault2 is2) in
+      let one_fault : fault2 ≡ fault = cc in
+      says2 ∙ ap refused one_fault ∙ sym says
+  same_answer params old new before after answer other room (inl (fault, is, same, says)) (inr (undone, is2, given)) =
+      absurd (not_both params undone is2 fault (of_decryption passphrase params encrypted fault is))
+  same_answer params old new before after answer other room (inr (secret, is, given)) (inl (fault, is2, same, says)) =
+      let both = one (params, encrypted) (Ok secret) (Err fault) is (of_round passphrase params encrypted fault is2) in absurd (cc)
+  same_answer params old new before after answer other room (inr (secret, is, given)) (inr (undone, is2, given2)) =
+      let u = undoes 3 passphrase (params, encrypted) undone is2 in
+      let long : length secret ≡ length undone =
+      secret_long params secret is ∙ sym (keeps passphrase params 3 encrypted undone u.is_undone).0 in
+      same_gives secret undone old new before after answer other long room given given2
+
+  -- the first call has the answer of the decryption
+  pub begins : (old new before after : List ℕ) (answer other : ShamirAnswer) → length old ≡ length before
+      → GivesDecrypted parameters (λ given noted. IsDecryption noted passphrase (given, encrypted)) [] old new answer
+      → GivesDecryptedRound parameters 3 encrypted passphrase before after other → other ≡ answer
+  begins old new before after answer other room (inl (bad, none, same, says)) (inl (bad2, none2, same2, says2)) = says2 ∙ sym says
+  begins old new before after answer other room (inl (bad, none, same, says)) (inr (p, are, rest)) =
+      let differ = parameters_once parameters (Ok p) (Err bad) are none in absurd (cc)
+  begins old new before after answer other room (inr (p, are, rest)) (inl (bad, none, same, says)) =
+      let differ = parameters_once parameters (Ok p) (Err bad) are none in absurd (cc)
+  begins old new before after answer other room (inr (p, are, inl (bad, (some, reads), same, says))) (inr rest) = absurd (some refl)
+  begins old new before after answer other room (inr (p, are, inr (Some noted, (some, reads), given))) (inr rest) = absurd (some refl)
+  begins old new before after answer other room (inr (p, are, inr (None, empty, given))) (inr (q, also, inl (bad, high, same, says))) =
+      absurd (high (omega arith))
+  begins old new before after answer other room (inr (p, are, inr (None, empty, given))) (inr (q, also, inr (_, low, given2))) =
+      let both = parameters_once parameters (Ok p) (Ok q) are also in
+      let same : q ≡ p = cc in
+      let here = subst (λ (r : Params). GivesDecryption (IsRoundDecryption 3 passphrase (r, encrypted)) before after other) same given2 in
+      same_answer p old new before after answer other room given here

@@ -13,12 +13,13 @@ use s39_clearing::clear_stack;
 use s39_kdf::{Params, Round};
 use s39_reading::decrypt_round;
 
-/// Decrypts one of the four rounds of an encrypted secret with a passphrase. So a caller can show how far a decryption is, and stop
+/// Undoes one of the four rounds of the cipher with a passphrase. So a caller can show how far a decryption is, and stop
 /// it. Calls with the rounds 3, 2, 1 and 0, in this order, give what `shamir_decrypt` gives if `expected` is empty, in a quarter of
 /// the time each. `encrypted` is the encrypted secret at first, and then what the call before gave.
 ///
 /// The undone text goes to the start of `undone`, and `written` is its length, which is that of `encrypted`. The bytes after it are
-/// unchanged. Each of these texts is as secret as the secret itself.
+/// unchanged. Passphrases can be tried on each of these texts, and after round 1 it ends with
+/// half of the secret.
 ///
 /// The call refuses with the first of these that applies, and `undone` is then unchanged:
 ///
@@ -64,7 +65,7 @@ fn round_answer(
     }
 }
 
-/// Decrypts the round with this number, if there is one.
+/// Undoes the round with this number, if there is one.
 fn numbered_round(
     params: Params,
     number: u8,
@@ -82,7 +83,7 @@ fn numbered_round(
     }
 }
 
-/// Decrypts a round, and gives the text.
+/// Undoes a round, and gives the text.
 fn give_round(
     params: Params,
     round: Round,

@@ -2,8 +2,9 @@
 //!
 //! The arguments of a call, with what its buffers held before, determine its answer and what its buffers hold
 //! afterwards. A `max_exponent` of 15 or more refuses nothing. `lengths.rt` has the laws about the lengths that the header names.
-ghost use Rattle.std.specs.Prelude.{◌≡◌, ◌≢◌, ◌↔◌, ℕ, ◌-◌, ◌^◌, ◌≤◌, min, List, [], length, take, None, Result, Ok, Err};
+ghost use Rattle.std.specs.Prelude.{◌≡◌, ◌≢◌, ◌↔◌, ℕ, ◌-◌, ◌^◌, ◌<◌, ◌≤◌, min, List, [], length, take, None, Result, Ok, Err};
 ghost use Rattle.s39_kdf.specs.declared.params.Params.{Params};
+ghost use Rattle.s39_kdf.specs.Rounds.{rounds};
 ghost use Rattle.s39_kdf.specs.declared.secret_form.SecretForm.TheVariants.{Digits};
 ghost use Rattle.s39_words.specs.declared.ShareFields.{ShareFields};
 ghost use Rattle.s39_set.specs.Names.{Names};
@@ -157,8 +158,8 @@ pub fn one_decrypted_round()
 }
 
 /// A decryption is four rounds: calls of `shamir_decrypt_round` with the rounds 3, 2, 1 and 0, each for the text that the one before
-/// it gave, give at last what `shamir_decrypt` gives if no fingerprint is expected. At a refusal, the first round gives the cause of
-/// the decryption.
+/// it gave, give at last what `shamir_decrypt` gives if no fingerprint is expected. In a slice of the same length, the first call has
+/// the answer of `shamir_decrypt`. A text that a call gave isn't refused by another one whose slice is long enough.
 pub fn decryptions_are_four_rounds()
     ensures secrets { (passphrase : List ℕ) (params : Params) (encrypted third second first secret : List ℕ)
         → IsRoundDecryption 3 passphrase (params, encrypted) (Ok third)
@@ -176,10 +177,21 @@ pub fn decryptions_are_four_rounds()
         → GivesDecryptedRound parameters 1 (take m new2) passphrase old1 new1 (done n)
         → GivesDecryptedRound parameters 0 (take n new1) passphrase old new answer
         → GivesDecrypted parameters (λ params noted. IsDecryption noted passphrase (params, encrypted)) [] old new answer }
+    ensures begins { (parameters : Parameters) (passphrase encrypted old new before after : List ℕ)
+        (answer other : Answer) → length old ≡ length before
+        → GivesDecrypted parameters (λ params noted. IsDecryption noted passphrase (params, encrypted)) [] old new answer
+        → GivesDecryptedRound parameters 3 encrypted passphrase before after other → other ≡ answer }
+    ensures goes_on { (parameters : Parameters) (passphrase text : List ℕ) (round next n : ℕ)
+        (before after old new : List ℕ) (answer : Answer)
+        → GivesDecryptedRound parameters round text passphrase before after (done n)
+        → next < rounds → n ≤ length old
+        → GivesDecryptedRound parameters next (take n after) passphrase old new answer → answer ≡ done n }
 {
     passphrases_are_printable_or_not();
     undoing_keeps_length_and_bytes();
     undone_rounds_decrypt();
+    encryption_keeps_length_and_bytes();
+    one_decryption();
 }
 
 /// Lines, passphrase, maximum exponent, cursor, limit, the number of the form and the text of a fingerprint determine the
