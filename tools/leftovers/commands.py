@@ -138,8 +138,7 @@ def failures_of_a_split(old: Backup, new: Backup) -> Iterator[Run]:
     lines, drawn = old.lines(), in_file(new.random)
     yield split_anew(new.plan, lines, drawn, READ_FAILED, 3, CUT_OFF)
     yield split_anew(new.plan, lines, drawn, WRITE_FAILED, 3, FULL)
-    # The length of this name is no index of a word beside 256 and 0, as three words of a mnemonic have them.
-    yield split_anew(new.plan, lines, "no-such-file", status=3)
+    yield split_anew(new.plan, lines, "none", status=3)
     yield split_anew(new.plan, lines, in_file(new.random + bytes(MOST_RANDOM)), RANDOM_LENGTH, 1)
 
 
