@@ -10,7 +10,7 @@ import tarfile
 import tempfile
 
 from left_out import left_out, python_with
-from tool import ROOT, mirrored, of_makefile, ran
+from tool import ROOT, mirrored, of_makefile, ran, tested
 
 BINDING = pathlib.Path("bindings", "python")
 # What the archive of the sources has, and where the repository has the same.
@@ -75,9 +75,7 @@ def check_wheel(python):
         shutil.copytree(ROOT / "bindings" / "python" / "tests", there / "tests", ignore=shutil.ignore_patterns("__pycache__"))
         clean = {name: value for name, value in os.environ.items() if name not in {"SHAMIR_LIBRARY", "PYTHONPATH"}}
         run = [f"{environment}/bin/python", "-B", "-m", "unittest", "discover", "-s", str(there / "tests")]
-        done = subprocess.run(run, cwd=folder, env=clean, capture_output=True, text=True)
-        if done.returncode:
-            sys.exit(f"the binding's tests by the wheel: {done.stderr}")
+        tested(run, cwd=folder, env=clean)
         check_papers([f"{environment}/bin/shamir-papers"], clean)
         check_command([f"{environment}/bin/shamir"], clean)
         files = ran([*pip[:-1], "show", "-f", "shamir"])

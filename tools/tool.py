@@ -2,12 +2,14 @@
 import argparse
 import importlib.machinery
 import importlib.util
+import multiprocessing
 import os
 import pathlib
 import re
 import shutil
 import subprocess
 import sys
+from concurrent.futures import ProcessPoolExecutor
 from types import ModuleType
 from typing import Any, Iterable, Sequence, Set, Union
 
@@ -37,6 +39,19 @@ def ran(words: Sequence[Union[str, pathlib.Path]], **options: Any) -> str:
     if done.returncode:
         sys.exit(f"{done.stdout}{done.stderr or ''}\n{' '.join(map(str, words[:4]))} .. ended with status {done.returncode}")
     return str(done.stdout)
+
+
+def tested(words: Sequence[Union[str, pathlib.Path]], **options: Any) -> str:
+    """Runs Python's unittest as `ran` runs a command. If it finds no test, which isn't a failure before Python 3.12, the tool says so and exits."""
+    told = ran(words, **options)
+    if re.search(r"^Ran 0 tests", told, re.MULTILINE):
+        sys.exit(f"{told}\n{' '.join(map(str, words))} finds no test")
+    return told
+
+
+def workers(**options: Any) -> ProcessPoolExecutor:
+    """Returns processes that begin as copies of this one. If one of them is killed, whoever waits for its result gets an exception."""
+    return ProcessPoolExecutor(mp_context=multiprocessing.get_context("fork"), **options)
 
 
 def mirrored(top: pathlib.Path, names: Iterable[Union[str, pathlib.Path]], *without: str) -> None:

@@ -8,7 +8,6 @@ a plain reading of the standard in Python gives (tools/plain.py). The tool says 
 status 1 if something differs.
 """
 import argparse
-import multiprocessing
 import pathlib
 import re
 import shutil
@@ -22,7 +21,7 @@ ROOT = HERE.parent.parent
 sys.path.insert(0, str(HERE.parent))
 
 from left_out import left_out  # noqa: E402
-from tool import tool  # noqa: E402
+from tool import tool, workers  # noqa: E402
 
 manual, module, rust = tool("manual"), tool("module"), tool("rust")
 compare = module.compare
@@ -122,8 +121,8 @@ def check_cases(compiler, folder, count, seed):
     run([compiler, "-std=c++17", *STRICT, *SANITIZED, str(HERE / "answers.cpp"), str(ROOT / "libshamir.a"), "-o", program])
     batches = [(range(at, min(at + BATCH, count)), seed, program) for at in range(0, count, BATCH)]
     tried = 0
-    with multiprocessing.get_context("fork").Pool() as pool:
-        for more, found in pool.imap_unordered(differences, batches):
+    with workers() as pool:
+        for more, found in pool.map(differences, batches):
             tried += more
             if found:
                 sys.exit(found[0])

@@ -1,18 +1,19 @@
 """Checks the page shamir.html in Chromium and in Firefox, and its tasks in WebKit.
 
-    python3 tools/check_page [--browser NAME] [--page FILE] [--cases N] [--faults] [--no-pictures] [PART..]
+    python3 tools/check_page [--browser NAME] [--page FILE] [--cases N] [--seed S] [--faults] [--no-pictures] [PART..]
 
 PART is one of sources, tasks, journey, change, refusals, entry, astray, hasty, long, looks, agreement, privacy, ways and webkit; without one, all of them run.
 `sources` also compares what the page decides with tools/decisions.json, and `agreement` compares N backups, 20 if it isn't given. The pictures
 of each screen go to page/out, which takes time. `--faults` plants faults in copies of the sources instead, and checks that each is found. The
 status is 1 if something fails.
-If a browser, or what the page is built with, isn't installed, its parts are left out. A part that fails beside others
-is tried once more, by itself.
+If a browser, or what the page is built with, isn't installed, its parts are left out. A part that fails beside others, or under
+`make`, is tried once more, with the same seed.
 """
 import argparse
 import concurrent.futures
 import os
 import pathlib
+import random
 import re
 import sys
 import threading
@@ -99,7 +100,7 @@ def check_looks(name, url):
     looks.check(name, url, seer(lambda: shown[0], name), Seen)
 
 
-def parts_of(name, url, modules, cases):
+def parts_of(name, url, modules, cases, seed):
     """Returns each part of the check in this browser."""
     return {
         "tasks": lambda: in_browser(name, url, [*tasks.TASKS.values(), *forms.CHECKS]),
@@ -111,8 +112,8 @@ def parts_of(name, url, modules, cases):
         "hasty": lambda: in_browser(name, url, hasty.CHECKS + choices.CHECKS + [typists.check]),
         "long": lambda: in_browser(name, url, long_drill.CHECKS),
         "looks": lambda: check_looks(name, url),
-        "agreement": lambda: in_browser(name, url, [lambda page, _: agreement.check(page, modules, cases), lambda page, _: agreement.check_memory(page)]),
-        "privacy": lambda: privacy.check(name, url),
+        "agreement": lambda: in_browser(name, url, [lambda page, _: agreement.check(page, modules, cases, seed), lambda page, _: agreement.check_memory(page)]),
+        "privacy": lambda: privacy.check(name, url, seed),
         "ways": lambda: ways_out.check(name, url),
     }
 
@@ -144,15 +145,18 @@ def checked(given):
     passed = [tried("page", "sources", lambda: (sources.check(ROOT / "page"), sources.check_types(ROOT / "page"), decisions.check()))] if "sources" in wanted else []
     modules = [ROOT / "shamir32.wasm", ROOT / "shamir.wasm"]
     url = given.page.resolve().as_uri()
-    jobs = [(name, part, check) for name in given.browser for part, check in parts_of(name, url, modules, given.cases).items() if part in wanted]
+    jobs = [(name, part, check) for name in given.browser for part, check in parts_of(name, url, modules, given.cases, given.seed).items() if part in wanted]
     if "webkit" in wanted:
         jobs.append(("webkit", "tasks", lambda: check_webkit(url)))
     # What takes longest begins first. `privacy` mostly waits.
     jobs.sort(key=lambda job: LONG.index(job[1]) if job[1] in LONG else len(LONG))
     with concurrent.futures.ThreadPoolExecutor(AT_ONCE) as pool:
         first = list(pool.map(lambda job: tried(*job), jobs))
-    # On a busy machine a browser can miss a deadline. So a part that failed beside others is tried once more, by itself.
-    is_beside = len(jobs) > 1
+    if not all(first):
+        print(f"the seed is {given.seed}", flush=True)
+    # On a busy machine a browser can miss a deadline. So a part that failed beside others is tried once more. `make` runs one part at a
+    # time, and other checks beside it.
+    is_beside = len(jobs) > 1 or "MAKELEVEL" in os.environ
     passed += [good or (is_beside and not browsers.interrupted.is_set() and tried(*job)) for job, good in zip(jobs, first)]
     if len(passed) > 1:
         print(f"{sum(passed)} passed, {len(passed) - sum(passed)} failed")
@@ -166,6 +170,7 @@ def main():
     parser.add_argument("--faults", action="store_true")
     parser.add_argument("--no-pictures", action="store_true")
     parser.add_argument("--cases", type=int, default=agreement.CASES)
+    parser.add_argument("--seed", type=int, default=random.randrange(2**32))
     parser.add_argument("parts", nargs="*", metavar="PART", choices=[[], *PARTS])
     given = parser.parse_args()
     given.browser = given.browser or browsers.NAMES

@@ -52,7 +52,7 @@ def case(source):
     return {"plan": plan, "secret": secret, "passphrase": passphrase, "exponent": source.randrange(2), "extendable": source.random() < 0.5}
 
 
-def by_program(program, it):
+def by_program(program, it, source):
     """Returns the lines of a backup, and those of its drills by fingerprints and by the one that is expected, by ./shamir."""
     with tempfile.TemporaryDirectory() as folder:
         for name, value in [("secret", it["secret"].hex()), ("passphrase", it["passphrase"])]:
@@ -62,7 +62,7 @@ def by_program(program, it):
         words = [program, "create", it["plan"], "--master-secret-file", f"{folder}/secret", *options, "--exponent", str(it["exponent"])]
         words += ["--extendable"] if it["extendable"] else []
         needed = subprocess.run(words, input=b"", capture_output=True).stderr.split()
-        it["random"] = random.SystemRandom().randbytes(int(needed[-2]))
+        it["random"] = source.randbytes(int(needed[-2]))
         made = subprocess.run(words, input=it["random"], capture_output=True, check=True).stdout
         drilled = subprocess.run([program, "drill", "--fingerprint", *options], input=made, capture_output=True, check=True).stdout
         fingerprint = drilled.split()[1].decode()
@@ -70,15 +70,15 @@ def by_program(program, it):
     return made.decode().splitlines(), *(listing.decode().splitlines()[:-1] for listing in (drilled, compared))
 
 
-def check(page, modules, count):
+def check(page, modules, count, seed):
     """Compares each form of the module with ./shamir, on so many generated backups."""
-    source = random.Random()
+    source = random.Random(seed)
     for first in range(0, count, BATCH):
-        check_batch(page, modules, [case(source) for _ in range(min(BATCH, count - first))])
+        check_batch(page, modules, [case(source) for _ in range(min(BATCH, count - first))], source)
 
 
-def check_batch(page, modules, cases):
-    wanted = [by_program(str(ROOT / "shamir"), it) for it in cases]
+def check_batch(page, modules, cases, source):
+    wanted = [by_program(str(ROOT / "shamir"), it, source) for it in cases]
     listed = [it | {"secret": list(it["secret"]), "random": list(it["random"])} for it in cases]
     for module in modules:
         given = {"module": base64.b64encode(module.read_bytes()).decode(), "cases": listed, "caller": CALLER}

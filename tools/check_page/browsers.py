@@ -21,6 +21,8 @@ from websocket import Closed, WebSocket
 # A browser may take this many seconds to start, and for one answer.
 PATIENCE = 60
 NAMES = ["chromium", "firefox"]
+# A proxy that the environment names can't reach this machine.
+DIRECT = urllib.request.build_opener(urllib.request.ProxyHandler({}))
 FIREFOX_PREFERENCES = {
     # Without this, a Firefox that is driven doesn't keep what one that isn't driven keeps.
     "remote.prefs.recommended": False,
@@ -124,7 +126,8 @@ def end(process):
 @contextlib.contextmanager
 def workplace():
     """Makes the folder in which the browsers and this check keep their files. An interrupted check removes it too."""
-    folder = tempfile.mkdtemp(prefix="shamir-page-")
+    # Chromium makes a socket below this folder, whose path can have 107 bytes.
+    folder = tempfile.mkdtemp(prefix="shamir-page-", dir="/tmp" if len(tempfile.gettempdir()) > 20 else None)
     tempfile.tempdir = folder
 
     def clear():
@@ -185,7 +188,7 @@ def told(file, pattern):
 
 def start_chromium(profile, is_dark):
     driver = started(["chromedriver", "--port=0"], profile.parent)
-    arguments = ["--headless=new", "--no-sandbox", "--disable-gpu", f"--user-data-dir={profile}", "--window-size=1200,900", "--no-first-run"]
+    arguments = ["--headless=new", "--no-sandbox", "--disable-gpu", "--disable-dev-shm-usage", f"--user-data-dir={profile}", "--window-size=1200,900", "--no-first-run"]
     arguments += ["--force-dark-mode", "--blink-settings=preferredColorScheme=0"] if is_dark else ["--blink-settings=preferredColorScheme=1"]
     options = {"binary": shutil.which("chromium"), "args": arguments}
     asked = {"capabilities": {"alwaysMatch": {"browserName": "chrome", "webSocketUrl": True, "goog:chromeOptions": options}}}
@@ -193,7 +196,7 @@ def start_chromium(profile, is_dark):
     def session():
         port = told(profile.parent / "said", r"started successfully on port (\d+)")
         request = urllib.request.Request(f"http://127.0.0.1:{port}/session", json.dumps(asked).encode(), {"Content-Type": "application/json"})
-        with urllib.request.urlopen(request, timeout=PATIENCE) as answer:
+        with DIRECT.open(request, timeout=PATIENCE) as answer:
             return json.load(answer)["value"]["capabilities"]["webSocketUrl"]
 
     return driver, lambda: Session(connected(session))

@@ -13,6 +13,7 @@ import choices
 import decisions
 import entry
 import forms
+import hands
 import hasty
 import journey
 import long_drill
@@ -63,7 +64,7 @@ def unseen(_):
 FAULTS = [
     ("a request from the worker", "page/desk.js", "function clear() {\n", "function clear() {\n  fetch('http://127.0.0.1/');\n", lambda folder, url: sources.check(folder / "page")),
     ("a field that the browser keeps", "page/dom.js", '  autocomplete: "off",\n', "", lambda folder, url: sources.check(folder / "page")),
-    ("the same, looked for in the profile", "page/dom.js", '  autocomplete: "off",\n', "", lambda folder, url: privacy.check("chromium", url)),
+    ("the same, looked for in the profile", "page/dom.js", '  autocomplete: "off",\n', "", lambda folder, url: privacy.check("chromium", url, 1)),
     ("a policy that lets requests out", "shamir.html", "connect-src 'none'", "connect-src http:", lambda folder, url: ways_out.check("chromium", url)),
     ("letters of the last word are awaited after its space", "page/word_field.js", "    this.#moved();\n    if (!isBefore", "    if (!isBefore", of_page(lambda page: typists.check(page, unseen, 40, ["in turn, space"]))),
     ("papers that aren't cleared", "page/backups.js", "    this.#papers.clear();\n    this.#rest = {", "    this.#papers = new Papers(this.#engine);\n    this.#rest = {", of_page(agreement.check_memory)),
@@ -269,6 +270,8 @@ def planted(folder, path, old, new, engine):
 
 def check(engine, tell):
     """Plants each fault. Raises Failed if a check doesn't find one."""
+    # What a fault keeps from coming is awaited for less.
+    hands.PATIENCE = 20
     with concurrent.futures.ThreadPoolExecutor(AT_ONCE) as pool:
         missed = [it for it in pool.map(lambda fault: missed_fault(fault, engine, tell), FAULTS) if it]
     if missed:

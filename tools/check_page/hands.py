@@ -8,7 +8,7 @@ import zlib
 from browsers import Failed
 
 # What the page does takes at most this many seconds.
-PATIENCE = 20
+PATIENCE = 60
 TABS_MAX = 150
 DATE = re.compile(rb"D:\d{14}[^)]*")
 KEYS = {"Tab": "\ue004", "Enter": "\ue007", "Backspace": "\ue003", "Space": " ", "Right": "\ue014", "Down": "\ue015", "Control": "\ue009", "Shift": "\ue008"}

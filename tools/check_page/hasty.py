@@ -7,16 +7,22 @@ from refusals import SOUND, changed, paste
 from tasks import answer_passphrase, begin, choose_wallet, create, end
 from texts import say
 
-# Lets what the page starts, or what it asks the worker for, come late or not at all. `UNDO` is run after a check.
-LATE = "new Promise((resolve) => setTimeout(resolve, %d))"
-LAUNCH = "{ const given = in_client.Desk.launch; window.undo = () => { in_client.Desk.launch = given; }; in_client.Desk.launch = %s; } null"
+# Lets what the page starts, or what it asks the worker for, come not at all, or only at `UNDO`, which ends this.
+LAUNCH = """
+{
+  const given = in_client.Desk.launch;
+  const late = new Promise((resolve) => { window.undo = () => { in_client.Desk.launch = given; resolve(); }; });
+  in_client.Desk.launch = %s;
+}
+null
+"""
 ASK = """
 {
   const given = in_client.Desk.prototype.ask;
-  window.undo = () => { in_client.Desk.prototype.ask = given; };
+  const late = new Promise((resolve) => { window.undo = () => { in_client.Desk.prototype.ask = given; resolve(); }; });
   in_client.Desk.prototype.ask = async function (call, ...more) {
     const answer = await given.call(this, call, ...more);
-    if (call === "%s") await %s;
+    if (call === "%s") await late;
     return answer;
   };
 }
@@ -45,11 +51,11 @@ def check_launch(page, see):
         see("a task that doesn't start")
         page.evaluate(UNDO)
         clear(page)
-    page.evaluate(LAUNCH % f"() => {LATE % 1000}.then(() => given.call(in_client.Desk))")
+    page.evaluate(LAUNCH % "() => late.then(() => given.call(in_client.Desk))")
     page.push(say("home.check"))
     page.push(say("clear"))
-    time.sleep(2)
     page.evaluate(UNDO)
+    time.sleep(2)
     if page.title() != say("home.title"):
         raise Failed(f"a task that was cleared while it started begins all the same: {page.title()!r}")
 
@@ -72,13 +78,13 @@ def check_double_click(page, _):
 
 def check_late_words(page):
     """Words that come late aren't shown while the page asks whether to clear them."""
-    page.evaluate(ASK % ("paper", LATE % 1500))
+    page.evaluate(ASK % "paper")
     page.push(say("paper.written"))
     page.wait_title(say("paper.title", name="0.2"))
     page.push(say("clear"))
     page.wait_text(say("clear.unfinished"))
-    time.sleep(2)
     page.evaluate(UNDO)
+    time.sleep(2)
     if words_shown(page):
         raise Failed("words that come late are shown while the page asks whether to clear them")
     page.push(say("clear.stay"))
@@ -103,14 +109,14 @@ def check_stop(page, see):
     paste(page, changed(SOUND, exponent=14))
     page.wait_text(say("collect.taken", name="0.0"))
     page.push(say("collect.end"))
-    page.evaluate(ASK % ("keep", LATE % 1500))
+    page.evaluate(ASK % "keep")
     begin_long(page)
     page.push(say("stop"))
-    page.wait_text(say("recover.stopped"))
     page.evaluate(UNDO)
+    page.wait_text(say("recover.stopped"))
     page.push(say("again"))
     begin_long(page)
-    time.sleep(0.5)
+    time.sleep(2)
     page.evaluate("{ const given = Worker; window.undo = () => { window.Worker = given; }; window.Worker = function () { throw new Error('none'); }; } null")
     page.push(say("stop"))
     page.wait_title(say("fault.title"))

@@ -4,6 +4,7 @@ A marker is a random word. It is typed into each kind of field of the page, and 
 control: if the marker of the control isn't found, the search is worth nothing, and the check fails.
 """
 import base64
+import os
 import pathlib
 import random
 import string
@@ -22,8 +23,8 @@ CONTROL = "<!doctype html><title>control</title><label>Plain <input type=text na
 LOOKING, WRITING = 7, 60
 
 
-def marker():
-    return "".join(random.SystemRandom().choice(string.ascii_lowercase) for _ in range(14))
+def marker(source):
+    return "".join(source.choice(string.ascii_lowercase) for _ in range(14))
 
 
 def patterns(word):
@@ -75,7 +76,12 @@ def contents(path):
         return []
     found = [data]
     if data[:8] == b"mozLz40\0":
-        found.append(unpacked_lz4(data[12:], struct.unpack("<I", data[8:12])[0]))
+        try:
+            found.append(unpacked_lz4(data[12:], struct.unpack("<I", data[8:12])[0]))
+        except (Failed, IndexError, struct.error):
+            # Firefox writes a file under such a name, and gives it its own when it is whole.
+            if path.suffix != ".tmp":
+                raise
     if data[:2] == b"\x1f\x8b":
         try:
             found.append(zlib.decompressobj(31).decompress(data))
@@ -88,7 +94,8 @@ def search(folder, markers):
     """Returns the names of the markers that stand in a file of the folder, with the file."""
     wanted = {name: patterns(word) for name, word in markers.items()}
     found = {}
-    for path in folder.rglob("*"):
+    # The browser removes folders and files meanwhile. Unlike `rglob`, `os.walk` passes over a folder that has gone.
+    for path in (pathlib.Path(there, name) for there, _, names in os.walk(folder) for name in names):
         if not path.is_file() or path.is_symlink():
             continue
         for data in contents(path):
@@ -98,9 +105,9 @@ def search(folder, markers):
     return found
 
 
-def typed_everywhere(page):
+def typed_everywhere(page, source):
     """Types a marker into each kind of field of the page, and returns the markers."""
-    markers = {kind: marker() for kind in ["word of a paper", "word of a damaged paper", "hidden passphrase", "shown passphrase", "digits", "digits again", "passphrase of a drill", "noted fingerprint"]}
+    markers = {kind: marker(source) for kind in ["word of a paper", "word of a damaged paper", "hidden passphrase", "shown passphrase", "digits", "digits again", "passphrase of a drill", "noted fingerprint"]}
     begin(page, "check")
     page.fill(say("entry.word", number=1), markers["word of a paper"])
     page.fill(say("entry.word", number=3), markers["word of a paper"])
@@ -133,13 +140,13 @@ def typed_everywhere(page):
     return markers
 
 
-def check_browser(name, url, control_url, is_quit):
+def check_browser(name, url, control_url, is_quit, source):
     with browser(name) as it:
         page = Page(it, url)
         page.wait_title(say("home.title"))
-        markers = typed_everywhere(page)
+        markers = typed_everywhere(page, source)
         tab = it.session.call("browsingContext.create", type="tab")["context"]
-        page.tab, plain = tab, marker()
+        page.tab, plain = tab, marker(source)
         page.call("browsingContext.navigate", url=control_url, wait="complete")
         page.evaluate("document.querySelector('input').focus()")
         page.type(plain)
@@ -161,9 +168,10 @@ def check_browser(name, url, control_url, is_quit):
         raise Failed(f"{name}, {how}: the browser's folders have what was typed: {found}")
 
 
-def check(name, url):
+def check(name, url, seed):
+    source = random.Random(seed)
     with tempfile.TemporaryDirectory() as folder:
         control = pathlib.Path(folder) / "control.html"
         control.write_text(CONTROL)
         for is_quit in (True, False):
-            check_browser(name, url, control.as_uri(), is_quit)
+            check_browser(name, url, control.as_uri(), is_quit, source)

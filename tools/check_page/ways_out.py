@@ -13,8 +13,9 @@ from hands import Page
 from texts import say
 
 CONTROL = "<!doctype html><title>control</title><body><h1>control</h1>"
-# A request comes within this many seconds.
-WAITING = 3
+# The certain ways of the control are awaited for at most this many seconds, and then those of the page for as long as they took, but at least
+# this many.
+MOST, LEAST = 60, 3
 # How each way asks for the address U.
 WAYS = {
     "fetch": "fetch(U, { mode: 'no-cors' }).catch(() => 0)",
@@ -73,13 +74,18 @@ class Server:
         return f"http://127.0.0.1:{self.server.server_port}/{path}"
 
 
-def tried(page, server, prefix):
-    """Tries each way, and returns those that reached the server."""
+def tried(page, server, prefix, most):
+    """Tries each way, and waits for the certain ones, at most so many seconds. Returns those that reached the server, and the seconds."""
     for number, code in enumerate(WAYS.values()):
         address = server.address(f"{prefix}/{number}")
         page.evaluate(f"(() => {{ {HELP} const U = '{address}'; try {{ {code}; }} catch {{}} return 0; }})()")
-    time.sleep(WAITING)
-    return {way for number, way in enumerate(WAYS) if f"/{prefix}/{number}" in server.asked}
+    begun = time.monotonic()
+    while True:
+        seconds = time.monotonic() - begun
+        reached = {way for number, way in enumerate(WAYS) if f"/{prefix}/{number}" in server.asked}
+        if seconds >= most or reached.issuperset(CERTAIN):
+            return reached, seconds
+        time.sleep(0.1)
 
 
 def check(name, url):
@@ -88,15 +94,14 @@ def check(name, url):
         control = pathlib.Path(folder) / "control.html"
         control.write_text(CONTROL)
         with browser(name) as it:
-            reached = tried(Page(it, control.as_uri()), server, "control")
+            reached, seconds = tried(Page(it, control.as_uri()), server, "control", MOST)
         missing = [way for way in CERTAIN if way not in reached]
         if missing:
             raise Failed(f"{name}: these ways don't work without a policy, so nothing is shown: {missing}")
         with browser(name) as it:
             page = Page(it, url)
             page.wait_title(say("home.title"))
-            out = tried(page, server, "page")
+            out, _ = tried(page, server, "page", max(LEAST, seconds))
     server.server.shutdown()
     if out:
         raise Failed(f"{name}: the policy lets these ways out: {sorted(out)}")
-    return len(reached)

@@ -59,7 +59,7 @@ class Driver:
         data = json.dumps(body or {}).encode() if method == "POST" else None
         request = urllib.request.Request(self.address + path, data, {"Content-Type": "application/json"}, method=method)
         try:
-            with urllib.request.urlopen(request, timeout=browsers.PATIENCE) as answer:
+            with browsers.DIRECT.open(request, timeout=browsers.PATIENCE) as answer:
                 return json.load(answer)["value"]
         except urllib.error.HTTPError as error:
             raise Failed(f"WebKit, {path}: {json.load(error)['value']['message'][:300]}") from None

@@ -23,6 +23,8 @@ sys.path[:0] = [str(ROOT / "tools" / "check_papers"), str(ROOT / "tools")]
 from left_out import left_out, say_skipped  # noqa: E402
 
 LIBRARY = ROOT / "bindings" / "python" / "shamir" / "libshamir.so"
+# This library is checked, whatever the environment names.
+os.environ["SHAMIR_LIBRARY"] = str(LIBRARY)
 PARTS = ["looks", "ends", "refusals", "slips", "astray", "pasted", "repaired", "apart", "change", "steps", "tasks", "traces", "scrollback", "entry", "agreement"]
 AT_ONCE = min(4, len(os.sched_getaffinity(0)))
 
@@ -32,7 +34,7 @@ def check_entry(_):
     tests = sorted(map(str, (ROOT / "bindings" / "python" / "tests").glob("test_papers*.py")))
     words = [sys.executable, "-B", "-m", "unittest", "--verbose", *tests]
     done = subprocess.run(words, cwd=ROOT, capture_output=True, text=True)
-    if done.returncode:
+    if done.returncode or "\nRan 0 tests" in done.stderr:
         raise AssertionError(done.stderr)
     say_skipped(done.stderr)
     return []
@@ -82,6 +84,9 @@ def main():
     given = parser.parse_args()
     if not LIBRARY.exists():
         sys.exit(f"tools/check_papers: {LIBRARY} isn't here: 'make lib' puts it there")
+    from hands import SEED
+
+    print(f"the seed of the random cases is {SEED}", flush=True)
     if given.faults:
         import faults
 

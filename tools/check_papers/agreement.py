@@ -6,7 +6,7 @@ import re
 import subprocess
 import tempfile
 
-from hands import ROOT, Failed, counted, say
+from hands import ROOT, SEED, Failed, counted, say
 from refusals import changed
 from tasks import Owner, change, expect_same, make, name_of, paper_prompt
 
@@ -195,7 +195,9 @@ def compare_repair(case):
     words = case.source.choice(case.papers).split()
     for at in case.source.sample(range(len(words)), case.source.randint(1, 3)):
         words[at] = words[at][: case.source.randrange(4)] + "?"
-    fits = case.told(["repair"], (" ".join(words) + "\n").encode())[0].splitlines()
+    told = case.told(["repair"], (" ".join(words) + "\n").encode())[0].splitlines()
+    # The dialogue takes no paper that no backup has.
+    fits = [fit for fit in told if (fields := plain.parse(fit.encode()))["group"] < fields["group_count"]]
     with Owner("repair") as owner:
         owner.prepare()
         owner.answer(say("damaged.ask"), " ".join(words))
@@ -233,10 +235,13 @@ def compare(number):
 
 
 def check(see, count=CASES):
-    """Compares so many cases. They are others each time."""
+    """Compares so many cases. They are others in each run."""
+    if count < 1:
+        raise Failed("no case is compared")
     if not os.path.exists(PROGRAM):
         return ["./shamir isn't here, so generated backups aren't compared with it"]
-    numbers = [random.SystemRandom().randrange(1 << 32) for _ in range(count)]
+    source = random.Random(SEED)
+    numbers = [source.randrange(1 << 32) for _ in range(count)]
     with concurrent.futures.ThreadPoolExecutor(AT_ONCE) as pool:
         list(pool.map(compare, numbers))
     return []

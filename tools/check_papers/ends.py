@@ -7,16 +7,15 @@ import signal
 import subprocess
 import sys
 import termios
-import time
 
 from hands import BINDING, END, PATIENCE, Failed, Interrupted, Session, environment, habits, say
-from tasks import FINGERPRINT, PASSPHRASE, THREE_GROUPS, Owner, check_change, check_check, check_new, check_recover, check_repair, check_replace, check_what, paper_prompt
+from tasks import FINGERPRINT, PASSPHRASE, THREE_GROUPS, Owner, check_change, check_check, check_new, check_recover, check_repair, check_replace, check_what, name_of, paper_prompt
 
 import plain
 
 AT_ONCE = 4
 # The fields of a paper that is a quorum alone, and takes long.
-SLOW = {"id": 7, "extendable": 0, "exponent": 9, "group_threshold": 1, "group_count": 4, "group": 0, "member": 0, "member_threshold": 1, "value": bytes(16)}
+SLOW = {"id": 7, "extendable": 0, "exponent": 12, "group_threshold": 1, "group_count": 4, "group": 0, "member": 0, "member_threshold": 1, "value": bytes(16)}
 
 
 def end_at(task, number, keys):
@@ -73,8 +72,7 @@ def check_in_the_middle():
         owner.prepare()
         owner.wait(paper_prompt(1))
         owner.type("shadow pistol")
-        while "pistol" not in owner.screen():
-            owner.pull(0.1)
+        owner.wait_shown(lambda: "pistol" in owner.screen(), "a word that was typed isn't shown")
         owner.type("\x04")
         owner.pull(0.2)
         owner.type("\x03")
@@ -90,6 +88,11 @@ def check_signals():
             owner.wait(paper_prompt(2))
             owner.run.send_signal(number)
             owner.end(status)
+
+
+def wait_working(owner):
+    """Waits until the program says how long the library works already."""
+    owner.wait_shown(lambda: "so far" in owner.screen(), "no work goes on")
 
 
 def stop(owner):
@@ -110,8 +113,7 @@ def check_work():
         owner.answer(say("new.secret"), "1")
         owner.answer(say("new.passphrase"), "TREZOR")
         owner.answer(say("new.passphrase.again"), "TREZOR")
-        while "so far" not in owner.screen():
-            owner.pull(1)
+        wait_working(owner)
         owner.expect(say("time.about", time="").rstrip(" ."))
         owner.expect("left. This is an estimate.")
         stop(owner)
@@ -120,19 +122,9 @@ def check_work():
         owner.answer(say("new.secret"), "1")
         owner.answer(say("new.passphrase"), "TREZOR")
         owner.answer(say("new.passphrase.again"), "TREZOR")
-        while "so far" not in owner.screen():
-            owner.pull(1)
+        wait_working(owner)
         owner.type("\x03")
         owner.end(130)
-
-
-def wait_told(owner, count):
-    """Waits until the program has said so many times that only one key does something."""
-    deadline = time.monotonic() + PATIENCE
-    while owner.emulator.all_seen().count(say("work.key")) < count:
-        if time.monotonic() > deadline:
-            raise Failed(f"the program doesn't say that only one key does something; it shows: {owner.screen()}")
-        owner.pull(0.2)
 
 
 def check_stopped_drill():
@@ -142,36 +134,36 @@ def check_stopped_drill():
         owner.prepare()
         owner.collect([plain.mnemonic({**SLOW, "group": group, "value": bytes([group]) * 16}) for group in range(4)])
         owner.passphrase("", "01234567")
-        while "so far" not in owner.screen():
-            owner.pull(1)
+        wait_working(owner)
         for count, key in enumerate(["x", "\n"], 1):
             owner.type(key)
-            wait_told(owner, count)
+            owner.wait_shown(lambda: owner.emulator.all_seen().count(say("work.key")) >= count, "it isn't said that only one key does something")
         stop(owner)
         owner.wait(say("next.again"))
         owner.expect(say("check.done.stopped"))
         owner.expect(say("drill.tried", tried=0, total=4))
-        owner.expect(say("time.long", exponent=9, time="").split("about")[0])
+        owner.expect(say("time.long", exponent=12, time="").split("about")[0])
         owner.answer(say("next.again"), "e")
         owner.end(0)
 
 
 def check_unproved():
     """A new backup whose drill was stopped is no finished one, and the program says so at its end."""
-    with Owner("new", "1of1") as owner:
+    # The drill takes ten times as long as the making.
+    with Owner("new", "3of5") as owner:
         owner.prepare()
         owner.settle()
         owner.answer(say("new.secret"), "m")
-        owner.answer(say("new.exponent"), "9")
+        owner.answer(say("new.exponent"), "8")
         owner.answer("Is that right? (y/n)", "y")
-        line = first_paper(owner, settles=False)
-        owner.answer(say("new.write"), "")
+        first_paper(owner, settles=False)
+        papers = owner.written()
         owner.answer(say("screen.next"), "")
-        owner.answer(say("back.ask", name="0.0"), line)
+        for line in papers:
+            owner.answer(say("back.ask", name=name_of(line)), line)
         owner.answer(say("noted.done"), "")
         owner.prove(owner.noted(), PASSPHRASE)
-        while "so far" not in owner.screen():
-            owner.pull(1)
+        wait_working(owner)
         stop(owner)
         owner.wait(say("make.failed.again"))
         owner.expect(say("make.unproved"))
@@ -185,8 +177,7 @@ def check_two_signals():
         owner.prepare()
         owner.collect([plain.mnemonic({**SLOW, "exponent": 15})])
         owner.passphrase("", "01234567")
-        while "so far" not in owner.screen():
-            owner.pull(1)
+        wait_working(owner)
         for number in (signal.SIGSTOP, signal.SIGTERM, signal.SIGHUP, signal.SIGCONT):
             owner.send(number)
         owner.end(-signal.SIGHUP)
@@ -203,8 +194,7 @@ def check_stopped():
         os.waitid(os.P_PID, owner.run.pid, os.WSTOPPED | os.WNOWAIT)
         termios.tcsetattr(owner.theirs, termios.TCSANOW, owner.modes)
         os.write(owner.theirs, b"\x1b[H\x1b[2J$ ")
-        while owner.screen() != "$":
-            owner.pull(0.1)
+        owner.wait_shown(lambda: owner.screen() == "$", "the screen isn't the shell's")
         owner.send(signal.SIGCONT)
         owner.wait(say("passphrase.ask"))
         if (owner.screen(), termios.tcgetattr(owner.theirs)) != (shown, modes):
@@ -317,8 +307,7 @@ def made_until(owner, prompt):
         if typed:
             half = len(line) // 2
             owner.type(typed[:half])
-            while not owner.screen().endswith(typed[:half].strip()[-3:]):
-                owner.pull(0.1)
+            owner.wait_shown(lambda: owner.screen().endswith(line[:half].strip()[-3:]), "words that were typed aren't shown")
             owner.type("\x03")
             owner.answer(END, "n")
             typed = typed[half:]

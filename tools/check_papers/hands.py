@@ -3,6 +3,7 @@ import fcntl
 import os
 import pathlib
 import pty
+import random
 import re
 import select
 import struct
@@ -22,6 +23,8 @@ from shamir.papers.texts import TABLE, counted, say  # noqa: E402, F401
 PROGRAM = [sys.executable, "-m", "shamir.papers"]
 # An answer may take this many seconds.
 PATIENCE = 30
+# The random cases come from this number, so that a part that is tried again has the same ones.
+SEED = random.SystemRandom().randrange(1 << 32)
 MORE = say("screen.more") + " "
 END = f"{say('end.ask')} (y/n)"
 # What the program says of the papers if it ends before the task does.
@@ -122,10 +125,15 @@ class Session:
 
     def wait_full(self):
         """Waits until the screen is full, and the program waits."""
+        self.wait_shown(lambda: self._before().endswith(MORE), "the screen isn't full")
+
+    def wait_shown(self, is_shown, fault):
+        """Reads what the program shows until that is what is waited for. `fault` says what is wrong if it never is."""
         deadline = time.monotonic() + PATIENCE
-        while not self._before().endswith(MORE):
-            if not self.pull(0.2) and time.monotonic() > deadline:
-                raise Failed(f"the screen isn't full; it shows: {self.screen()}")
+        while not is_shown():
+            is_ended = self.run.poll() is not None
+            if time.monotonic() > deadline or (not self.pull(0.2) and is_ended):
+                raise Failed(f"{fault}; the program shows: {self.screen()}")
 
     def _send(self, text):
         """Types a text, and waits until the program shows something."""
@@ -147,11 +155,8 @@ class Session:
 
     def expect(self, text):
         """Waits until a sentence was shown since the last `forget`."""
-        wanted, deadline = " ".join(text.split()), time.monotonic() + PATIENCE
-        while wanted not in self.emulator.all_seen():
-            if self.pull(0.2) or (time.monotonic() < deadline and self.run.poll() is None):
-                continue
-            raise Failed(f"the program doesn't show {wanted!r}; it shows: {self.screen()}")
+        wanted = " ".join(text.split())
+        self.wait_shown(lambda: wanted in self.emulator.all_seen(), f"{wanted!r} isn't shown")
 
     def forget(self):
         self.emulator.seen = []

@@ -4,7 +4,7 @@ import random
 import re
 
 from emulator import Emulator
-from hands import Failed, habits, say
+from hands import SEED, Failed, habits, say
 from tasks import check_change, check_check, check_new, check_recover, check_repair, check_replace, check_what
 
 from shamir.papers.line import Line
@@ -78,7 +78,7 @@ class Typed:
 
 def check_lines():
     """Types letters and takes some back, over the ends of rows: the screen shows what is left, and nothing else."""
-    chance = random.Random()
+    chance = random.Random(SEED)
     for _ in range(1000):
         columns = chance.choice([20, 21, 40])
         keys = b"".join(chance.choice([b"a", b"b", b"\x7f", b"\x7f", b" ", b"word", b"\x17", b"\x15", b"abcdefghijkl", b"\x1b[D"]) for _ in range(chance.randrange(60)))

@@ -140,10 +140,7 @@ def check_cut():
     """More is pasted than all papers of a backup have: what comes after that isn't taken, and the program says so."""
     with started("check") as owner:
         owner.wait(paper_prompt(1))
-        text = "acid " * 15 + "\n"
-        for _ in range(900):
-            owner.type(text)
-            owner.pull(0)
+        owner.type(("acid " * 15 + "\n") * 900)
         owner.expect(say("paste.cut", end="acid acid"))
         owner.type("\n")
         owner.expect("words are too many")

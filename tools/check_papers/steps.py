@@ -361,7 +361,7 @@ def check_full():
             owner.wait_full()
             for at, key in enumerate(keys):
                 owner.type(key)
-                while owner.pull(0.3):
+                while owner.pull(1):
                     pass
             owner.settle()
             owner.wait(say("new.secret"))

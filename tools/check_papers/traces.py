@@ -81,7 +81,7 @@ def look_for(session, texts):
 
 def of_papers(papers):
     """Returns what would show papers: four words that follow one another, of each paper. The first four say little."""
-    return {f"words of paper {at}": " ".join(line.split()[at : at + 4]).encode() for at in (5, 9) for line in papers[:2]}
+    return {f"words from {at} on of paper {number}": " ".join(line.split()[at : at + 4]).encode() for at in (5, 9) for number, line in enumerate(papers, 1)}
 
 
 def check_memory():

@@ -5,9 +5,9 @@ secret in its memory.
 
 Of the library, it makes calls by tools/check_portable/driver.c, which gives what then lies below the frame of the caller. There, the
 tool searches for the secret, the encrypted secret, the passphrase, the random bytes and the values of shares: their bytes and digits,
-and any eight of these in a row. It also searches for any three words of a mnemonic in a row. And it checks that what the call
-touched is 0. Only the highest FRAMES bytes may be others, where the frames of the call and of the clearing are, and the lowest
-eight, where the clearing puts the address to which its last step returns.
+and any eight of these in a row. It also searches for any three words of a mnemonic in a row, and for any four as numbers of 16 bits. And it
+checks that what the call touched is 0. Only the highest FRAMES bytes may be others, where the frames of the call and of the clearing
+are, and the lowest eight, where the clearing puts the address to which its last step returns.
 
 It also adds up the frames of the functions that a call reaches, as objdump shows them. A call must clear as much, whatever it is
 given. The tool needs a C compiler for x86-64 and objdump. It says what it doesn't check without them.

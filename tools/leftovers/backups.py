@@ -10,8 +10,9 @@ plain: Any = importlib.import_module("plain")
 PASSPHRASE = b"correct horse battery"
 WINDOW = 8
 RUN = 3
-# The first words of a mnemonic hold what isn't secret. Their indices are small, so other numbers in memory can be the same.
-NOT_SECRET = 4
+# The words of a mnemonic's header hold the identifier and the plan, and nothing secret. Their indices are small, so other numbers in
+# memory can be the same.
+HEADER_WORDS = 4
 # Bytes with fewer than eight zeros in a row. Nothing that is looked for is in others, except up to seven zeros at its beginning.
 # A range of bytes is found faster than all bytes but one.
 FILLED = re.compile(rb"[\1-\xff](?:\0{0,7}[\1-\xff])*")
@@ -86,15 +87,17 @@ def forms(value: bytes) -> Iterator[bytes]:
 
 
 def runs(mnemonic: bytes) -> Iterator[bytes]:
-    """Yields three words in a row that hold a part of the value, as text, as rows of eight bytes, and as indices of 16, 32 and 64 bits."""
+    """Yields three words in a row that hold a part of the value, as text, as rows of eight bytes, and as indices of 32 and 64 bits. Of
+    indices of 16 bits it takes four, since a search compares at least WINDOW bytes.
+    """
     words = mnemonic.split(b" ")
-    for at in range(NOT_SECRET, len(words) - RUN + 1):
+    for at in range(HEADER_WORDS, len(words) - RUN + 1):
         three = words[at : at + RUN]
         yield b" ".join(three)
         for filler in (b" ", b"\0"):
             yield b"".join(word.ljust(8, filler) for word in three)
         for size in (2, 4, 8):
-            yield b"".join(plain.INDEX[word].to_bytes(size, "little") for word in three)
+            yield b"".join(plain.INDEX[word].to_bytes(size, "little") for word in words[at : at + max(RUN, WINDOW // size)])
 
 
 class Needles:

@@ -1,5 +1,4 @@
 """Looks for what the program leaves in memory at its end."""
-import multiprocessing
 import pathlib
 import re
 import tempfile
@@ -9,6 +8,7 @@ from typing import Iterator, List, Tuple
 import backups
 import commands
 import exits
+from tool import workers
 
 REFUSAL = re.compile(rb"^shamir: (?:line \d+: )?(\d\d) ", re.MULTILINE)
 # Below the words of the command, this many bytes of the stack may be other than 0: the frames of `main` and of those that call
@@ -98,8 +98,8 @@ def all_leftovers(program: pathlib.Path, shim: str) -> Tuple[List[str], int, int
         if shim:
             runs += without_memory(search.program, shim, runs)
         # Each process traces its own runs, since only the thread that started a program may trace it.
-        with multiprocessing.get_context("fork").Pool(initializer=begin, initargs=(search,)) as pool:
-            for found, lowest in pool.imap(searched, runs, chunksize=4):
+        with workers(initializer=begin, initargs=(search,)) as pool:
+            for found, lowest in pool.map(searched, runs, chunksize=4):
                 told += [f"{len(backup.secret)} bytes: {it}" for it in found]
                 count, deepest = count + 1, max(deepest, lowest)
     return told, count, deepest

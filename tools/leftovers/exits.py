@@ -86,7 +86,7 @@ def ended(words: List[str], given: bytes, folder: str, how: devices.How = device
             stdin=reader,
             stdout=writer,
             stderr=errors,
-            env={**os.environ, **how.variables},
+            env={"PATH": os.environ["PATH"], **how.variables},
             preexec_fn=lambda: trace(TRACE_ME, 0),
         )
         areas, words_at = stopped_at_exit(run.pid, how.stack)

@@ -9,19 +9,19 @@ has to be caught by a case, and each case has to catch one. Electrum, if it is h
 combine the mnemonics of a backup that is split anew to what the new ones combine to. The tool exits with status 1 if something differs.
 """
 import argparse
-import multiprocessing
 import os
 import pathlib
 import sys
 
 ROOT = pathlib.Path(__file__).resolve().parents[2]
-os.environ.setdefault("SHAMIR_LIBRARY", str(ROOT / "libshamir.so"))
+os.environ["SHAMIR_LIBRARY"] = str(ROOT / "libshamir.so")
 sys.path[:0] = [str(ROOT / "tools" / "vectors"), str(ROOT / "tools"), str(ROOT / "bindings" / "python")]
 sys.dont_write_bytecode = True
 
 import data  # noqa: E402
 import page  # noqa: E402
 import readers  # noqa: E402
+from tool import workers  # noqa: E402
 
 
 def check_files(texts):
@@ -52,8 +52,8 @@ def difference(place):
 
 
 def check_agreement():
-    with multiprocessing.get_context("fork").Pool() as pool:
-        for differs in pool.imap(difference, range(len(data.cases())), 8):
+    with workers() as pool:
+        for differs in pool.map(difference, range(len(data.cases())), chunksize=8):
             if differs:
                 sys.exit(differs)
 

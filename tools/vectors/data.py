@@ -6,7 +6,6 @@ import hashlib
 import hmac
 import itertools
 import json
-import multiprocessing
 import re
 
 import encrypted
@@ -18,6 +17,7 @@ import sets
 from backups import PASSPHRASE
 from case import Case, answer, differs, wrong_answer
 from mistakes import MISTAKES, Mistake, mistaken
+from tool import workers
 
 FOLDER = plain.ROOT / "vectors"
 KINDS = one_mnemonic.KINDS | sets.KINDS | recovery.KINDS | resplits.KINDS | encrypted.KINDS
@@ -91,8 +91,8 @@ def mistakes():
     # The processes below inherit the key derivations that are kept by now.
     if any(tried(Mistake("reader", "none", "is right", ())).get(name) for name in ("caught_by", "caught_by_slip_0039", "caught_by_published")):
         raise ValueError("a case catches an unchanged copy of the plain reading")
-    with multiprocessing.get_context("fork").Pool() as pool:
-        return pool.map(tried, MISTAKES, 1)
+    with workers() as pool:
+        return list(pool.map(tried, MISTAKES))
 
 
 def is_idle(place):
@@ -106,8 +106,8 @@ def idle(found):
     """Returns the ids of the cases that catch none of the mistakes."""
     listed = {id for mistake in found for id in mistake["caught_by"]}
     places = [place for place, (_, case, _) in enumerate(cases()) if case.id not in listed]
-    with multiprocessing.get_context("fork").Pool() as pool:
-        return [cases()[place][1].id for place, catches_none in zip(places, pool.map(is_idle, places, 8)) if catches_none]
+    with workers() as pool:
+        return [cases()[place][1].id for place, catches_none in zip(places, pool.map(is_idle, places, chunksize=8)) if catches_none]
 
 
 def master_key(secret):

@@ -9,7 +9,7 @@ use Rattle.clap.specs.declared.error.kind.ErrorKind.{ErrorKind}
 use Rattle.clap.specs.declared.error.kind.ErrorKind.TheVariants.{DisplayHelp, DisplayVersion, InvalidSubcommand, OutOfMemory, UnknownArgument}
 use Rattle.s39_clap.proofs.Agreement.{one_request_or_mistakes, request_alone}
 use Rattle.s39_clap.specs.Faults.{is_mistake, is_settled_app}
-use Rattle.s39_command.specs.Command.{AnswersHelp, AnswersKind, AnswersWords, AsksByHelp, AsksForText, IsHelp, IsRefusal, SaysHelp, shamir_app}
+use Rattle.s39_command.specs.Command.{AnswersHelp, AnswersKind, AnswersWords, AsksByHelp, AsksForText, IsRefusal, SaysHelp, shamir_app}
 use Rattle.s39_command.specs.declared.command.NoJob.{NoJob}
 use Rattle.s39_command.specs.declared.command.NoJob.TheVariants.{Help, Refused, Values, Memory}
 
@@ -42,13 +42,6 @@ help_faults (p ∷ []) says = cc
 help_faults (p ∷ word ∷ rest) says =
     let same : codes "help" ≡ word = cc in
     subst (λ (w : Text). fault_of shamir_app (p ∷ w ∷ rest) ≡ UnknownArgument ∷ InvalidSubcommand ∷ []) same refl
-
--- `help` alone gets the text of help
-help_alone : (answer : NoJob) (program said : Text) → IsHelp answer → SaysHelp (program ∷ said ∷ []) → AnswersWords answer (program ∷ said ∷ [])
-help_alone (Help text) program said is says = inl (let same : said ≡ codes "help" = cc in same)
-help_alone Memory program said is says = tt
-help_alone (Refused text) program said is says = absurd is
-help_alone (Values bad) program said is says = absurd is
 
 -- words that say `help` are no command, and ask for no text by an option
 not_taken_by_help : (words : List Text) → SaysHelp words → takes shamir_app words ≡ false
@@ -113,13 +106,6 @@ help_if_taken (Refused text) a words is refused none = λ help.
     let faultless = ap (λ (x : App). fault_of x words) (sym is) ∙ none in cc
 
 -- ---- by the number of the words
-
-pub help_of_two : (words : List (Bor Text)) (answer : NoJob) → length words ≡ 2 → IsHelp answer → SaysHelp (map (λ word. word.now) words)
-    → AnswersWords answer (map (λ word. word.now) words)
-help_of_two [] answer two is says = absurd (omega (arith, two))
-help_of_two (p ∷ []) answer two is says = absurd (omega (arith, two))
-help_of_two (p ∷ said ∷ []) answer two is says = help_alone answer p.now said.now is says
-help_of_two (p ∷ said ∷ name ∷ rest) answer two is says = absurd (omega (arith, two))
 
 pub help_of_three : (words : List (Bor Text)) (d e : Bor Text) (answer : NoJob) → length words ≡ 3
     → AnswersHelp answer (fault_of shamir_app ((slice_index_or words 0 d).now ∷ (slice_index_or words 2 e).now ∷ codes "--help" ∷ []))

@@ -12,7 +12,7 @@ rounds = 4
 abbrev pub joined_halves : ℕ → List ℕ → List ℕ → List ℕ
 joined_halves round left right = if round == 0 then right ++ left else left ++ right
 
--- A text with the halves a and b gives b and a xor F (i, b) when round i is undone.
+-- A text with the halves a and b gives b and a xor F (i, b) when round i is undone, in the other order for round 0.
 pub record IsUndone (passphrase : List ℕ) (params : Params) (round : ℕ) (text undone : List ℕ) : Type 0 where
   pub front : List ℕ
   pub back : List ℕ

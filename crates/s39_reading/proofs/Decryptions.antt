@@ -1,5 +1,5 @@
 -- A recovery is the decryption of an encrypted secret. Each of these two steps has one result.
-use Rattle.std.proofs.Common.{◌≡◌, ◌⊎◌, ℕ, List, [], length, refl, sym, ap, ◌∙◌, subst, inl, inr}
+use Rattle.std.proofs.Common.{◌≡◌, ◌⊎◌, ℕ, List, [], length, refl, sym, ap, ◌∙◌, subst}
 use Rattle.std.proofs.Common.{None, Option, Result, Ok, Err}
 use Rattle.std.specs.Result.{IfOk}
 use Rattle.s39_kdf.specs.declared.noted.NotedFingerprint.{NotedFingerprint}
@@ -29,6 +29,7 @@ use Rattle.s39_input.specs.Steps.{Then, gives, refuses, nothing_for}
 use Rattle.s39_input.specs.Accepted.{IsReadAs, IsJudged, IsMeasured}
 use Rattle.s39_input.proofs.Steps.{AtMostOne, AtLeastOne, then_once, then_some}
 use Rattle.s39_input.proofs.Measures.{measured_once, some_measure}
+use Rattle.s39_input.proofs.Sets.Checked.{judged_once, some_judged}
 use Rattle.s39_input.proofs.Sets.OneSet.{InputsAreReadOnce, AcceptedAreShareSets}
 use Rattle.s39_reading.proofs.Runs.Recovering.{least_once, least_or_lack}
 use Rattle.s39_reading.specs.Recover.{as_expected, secret_line, IsLeastOrLack, IsRecovered, IsRecoverOutput}
@@ -227,31 +228,17 @@ module _ (quorum_or_lack : (set : List ShareFields) → IsShareSet set
 
 module _ (one_unprintable : PassphrasesHaveOneFirstUnprintable) (none_unprintable : PrintablePassphrasesHaveNone)
     (printable_or_not : PassphrasesArePrintableOrNot) (passphrase : List ℕ) where
-  judged_once : AtMostOne (IsJudged passphrase)
-  judged_once (Ok _) (Ok _) p q = refl
-  judged_once (Ok _) (Err bad) p q = absurd (none_unprintable passphrase bad.position p q)
-  judged_once (Err bad) (Ok _) p q = absurd (none_unprintable passphrase bad.position q p)
-  judged_once (Err bad) (Err other) p q =
-      ap (λ (n : ℕ). Err (record { position = n })) (one_unprintable passphrase bad.position other.position p q)
-
-  judged : AtLeastOne (IsJudged passphrase)
-  judged =
-      elim (printable_or_not passphrase) [
-        | inl printable ↦ (Ok tt, printable)
-        | inr (position, first) ↦ (Err (record { position = position }), first)
-      ]
-
   pub decryption_once : EncryptsOneSecret → (expected : Option NotedFingerprint) (encrypted : Params × List ℕ)
       → AtMostOne (IsDecryption expected passphrase encrypted)
   decryption_once encrypts_once expected encrypted =
-      then_once (IsJudged passphrase) _ _ judged_once (λ _ _.
+      then_once (IsJudged passphrase) _ _ (judged_once one_unprintable none_unprintable printable_or_not passphrase) (λ _ _.
       then_once (IsMeasured encrypted.1) _ _ (measured_once encrypted.1) (λ _ _ x y p q.
       p.2 ∙ ap (as_expected expected) (encrypts_once passphrase encrypted.0 p.0 q.0 encrypted.1 p.1 q.1) ∙ sym q.2))
 
   pub some_decryption : TextsHaveOneSecret → (expected : Option NotedFingerprint) (encrypted : Params × List ℕ)
       → AtLeastOne (IsDecryption expected passphrase encrypted)
   some_decryption texts expected encrypted =
-      then_some (IsJudged passphrase) _ _ judged (λ _ _.
+      then_some (IsJudged passphrase) _ _ (some_judged one_unprintable none_unprintable printable_or_not passphrase) (λ _ _.
       then_some (IsMeasured encrypted.1) _ _ (some_measure encrypted.1) (λ _ long.
       let (secret, encrypts, _) = texts passphrase encrypted.0 encrypted.1 long.0 in
       (as_expected expected secret, (secret, encrypts, refl))))

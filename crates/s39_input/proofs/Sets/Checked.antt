@@ -35,15 +35,15 @@ printable_of_checked passphrase input set (refuses bad first is) = absurd (cc)
 
 module _ (one_unprintable : PassphrasesHaveOneFirstUnprintable) (none_unprintable : PrintablePassphrasesHaveNone)
     (printable_or_not : PassphrasesArePrintableOrNot) where
-  judged_once : (passphrase : List ℕ) → AtMostOne (IsJudged passphrase)
+  pub judged_once : (passphrase : List ℕ) → AtMostOne (IsJudged passphrase)
   judged_once passphrase (Ok _) (Ok _) p q = refl
   judged_once passphrase (Ok _) (Err bad) p q = absurd (none_unprintable passphrase bad.position p q)
   judged_once passphrase (Err bad) (Ok _) p q = absurd (none_unprintable passphrase bad.position q p)
   judged_once passphrase (Err bad) (Err other) p q =
       ap (λ (n : ℕ). Err (record { position = n })) (one_unprintable passphrase bad.position other.position p q)
 
-  judged : (passphrase : List ℕ) → AtLeastOne (IsJudged passphrase)
-  judged passphrase =
+  pub some_judged : (passphrase : List ℕ) → AtLeastOne (IsJudged passphrase)
+  some_judged passphrase =
       elim (printable_or_not passphrase) [
         | inl printable ↦ (Ok tt, printable)
         | inr (position, first) ↦ (Err (record { position = position }), first)
@@ -60,7 +60,7 @@ module _ (one_unprintable : PassphrasesHaveOneFirstUnprintable) (none_unprintabl
   checked_sets every_input_is_read one_set are_share_sets = record {
     once = λ passphrase input. then_once (IsJudged passphrase) _ _ (judged_once passphrase)
         (λ _ _. then_once (IsReadAs input) _ _ (one_set input) (λ set _ r s p q. p ∙ sym q));
-    exists = λ passphrase input. then_some (IsJudged passphrase) _ _ (judged passphrase) (λ _ _.
+    exists = λ passphrase input. then_some (IsJudged passphrase) _ _ (some_judged passphrase) (λ _ _.
         let (answer, read, is) = every_input_is_read input in then_some (IsReadAs input) _ _ (answer, read) (λ set _. (Ok set, refl)));
     is_set = λ passphrase input set checked. are_share_sets input set (set_of_checked passphrase input set checked);
   }
