@@ -285,9 +285,9 @@ shamir_answer shamir_random_needed(const char *plan, size_t plan_bytes, size_t s
  * After success, the field first of the answer is the number of mnemonics.
  *
  * Set the extendable flag of a new backup, as the example does. A later backup of the same secret, with the same passphrase and
- * exponent and this flag, then gives the same secret as the first with every other passphrase too. Leave the flag out only if a
- * wallet that has to read the backup doesn't know it, because the flag came into the standard later than the rest. For that
- * reason, the command shamir leaves it out unless it is asked for.
+ * exponent and this flag, then gives the same secret as the first with every other passphrase too. Leave the flag out if a wallet
+ * that has to read the backup may not know it, because the flag came into the standard later than the rest. For that reason,
+ * the command shamir leaves it out unless it is asked for.
  *
  * With a passphrase, give a new backup the exponent 1, as the standard's reference implementation does, or a greater one. The
  * exponent slows down only guesses of the passphrase, so without one, as in the example, 0 is enough. The command takes 0 by

@@ -342,7 +342,7 @@ inline std::string to_text(const Answer<Judgement> &found)
     return found ? (found->again ? "again\n" : "") + to_text(found->status) : found.error().message() + "\n";
 }
 
-/* Set the extendable flag of a new backup, unless a wallet that has to read it doesn't know the flag. */
+/* Set the extendable flag of a new backup, unless a wallet that has to read it may not know the flag. */
 struct CreateOptions {
     Text passphrase = {};
     std::uint32_t exponent = 0;

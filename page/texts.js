@@ -213,7 +213,7 @@ export const TEXTS = {
   "plan.home.hint": "3 papers are at home (group 0), and any 2 of them count as the house. A friend (group 1) and a lawyer (group 2) have 1 paper each. Any 2 of the house, the friend and the lawyer are enough.",
   "plan.own": "A plan of your own",
   "plan.own.hint": "Groups of papers for people and places with different weight.",
-  "plan.short": "Whoever lacks only one paper doesn't have enough, but can test guesses of the secret. Nobody guesses random bytes. A secret that a person made up may be guessed.",
+  "plan.short": "Whoever lacks only one paper, or one group, doesn't have enough, but can test guesses of the secret. Nobody guesses random bytes. A secret that a person made up may be guessed.",
   "plan.add": "Add a group",
   "plan.drop": "Remove the last group",
   "plan.members": "Papers in group {group}",

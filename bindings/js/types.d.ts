@@ -213,7 +213,7 @@ export interface Judgement {
 }
 
 /**
- * Set the extendable flag of a new backup, unless a wallet that has to read it doesn't know the flag. With a passphrase, give a new
+ * Set the extendable flag of a new backup, unless a wallet that has to read it may not know the flag. With a passphrase, give a new
  * backup an exponent of 1 or more. Without a passphrase, the exponent protects nothing.
  */
 export interface CreateOptions {

@@ -661,7 +661,7 @@ def create(
     `exponent` is the iteration exponent, 0 to 15. The call takes 10,000 * 2^exponent iterations of PBKDF2, and twice as
     many for a secret of more than 64 bytes.
 
-    Set the extendable flag of a new backup, unless a wallet that has to read it doesn't know the flag. With a passphrase,
+    Set the extendable flag of a new backup, unless a wallet that has to read it may not know the flag. With a passphrase,
     give a new backup an exponent of 1 or more. The defaults are those of the command `shamir`: older wallets don't know the
     flag, and without a passphrase the exponent protects nothing.
 

@@ -55,7 +55,7 @@ pub struct CreateOptions<'a> {
 impl<'a> CreateOptions<'a> {
     /// Gives the options with no passphrase, the exponent 0, and no extendable flag, as the command `shamir` has them by default.
     ///
-    /// Set the extendable flag of a new backup, unless a wallet that has to read it doesn't know the flag. With a passphrase, give
+    /// Set the extendable flag of a new backup, unless a wallet that has to read it may not know the flag. With a passphrase, give
     /// a new backup an exponent of 1 or more.
     ///
     /// ```
