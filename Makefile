@@ -15,7 +15,7 @@
 #                    32-bit memory
 #   make portable    makes dist/c, the library as one file of C, from shamir32.wasm
 #   make page        builds shamir.html, the page with the library in it
-#   make checks      runs all checks below except check-portable, check-arm64 and check-alone, side by side: as many as there are
+#   make checks      runs each check-NAME below except check-portable, check-arm64 and check-alone, side by side: as many as there are
 #                    processors, and as many as get 3 GB of memory each, or as -j says. Each tool runs in a target of its own, such as
 #                    check-recipes, which runs alone too
 #   make check       runs the fast checks. They cover the documents, examples of doc comments, manual pages, completions,
