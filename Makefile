@@ -396,8 +396,8 @@ install-lib:
 	$(INSTALL) -m 644 $(DOCUMENTS) "$(DESTDIR)$(DOCDIR)"
 	$(INSTALL) -m 644 docs/*.md docs/*.png "$(DESTDIR)$(DOCDIR)/docs"
 	$(INSTALL) -m 644 examples/c/*.c "$(DESTDIR)$(DOCDIR)/examples/c"
-	$(INSTALL) -m 644 examples/*.txt examples/*.sh "$(DESTDIR)$(DOCDIR)/examples"
 	$(INSTALL) -m 644 examples/cpp/*.cpp "$(DESTDIR)$(DOCDIR)/examples/cpp"
+	$(INSTALL) -m 644 examples/*.txt examples/*.sh "$(DESTDIR)$(DOCDIR)/examples"
 	@test -n "$(DESTDIR)" || PATH="$$PATH:/usr/sbin:/sbin" LDCONFIG="$(LDCONFIG)" packaging/loader "$(LIBDIR)" $(SONAME)
 
 install-page:
