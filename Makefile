@@ -403,7 +403,7 @@ install-lib:
 install-page:
 	@test -f shamir.html || { echo "make install-page: ./shamir.html isn't here: 'make page' builds it" >&2; exit 1; }
 	$(INSTALL) -d "$(DESTDIR)$(PAGEDIR)"
-	$(INSTALL) -m 644 shamir.html "$(DESTDIR)$(PAGEDIR)/shamir.html"
+	$(INSTALL) -m 644 shamir.html dist/heirs.html "$(DESTDIR)$(PAGEDIR)"
 
 # The command finds its modules and the library by the folders that are given here.
 install-papers:
@@ -424,7 +424,7 @@ uninstall:
 	rm -f "$(DESTDIR)$(BASHDIR)/shamir" "$(DESTDIR)$(ZSHDIR)/_shamir" "$(DESTDIR)$(FISHDIR)/shamir.fish"
 	rm -f "$(DESTDIR)$(LIBDIR)/libshamir.a" "$(DESTDIR)$(LIBDIR)/libshamir.so" "$(DESTDIR)$(LIBDIR)/$(SONAME)" "$(DESTDIR)$(LIBDIR)/libshamir.so.$(VERSION)"
 	rm -f "$(DESTDIR)$(LIBDIR)/pkgconfig/shamir.pc" "$(DESTDIR)$(INCLUDEDIR)/shamir.h" "$(DESTDIR)$(INCLUDEDIR)/shamir.hpp"
-	rm -f "$(DESTDIR)$(PAGEDIR)/shamir.html"
+	rm -f "$(DESTDIR)$(PAGEDIR)/shamir.html" "$(DESTDIR)$(PAGEDIR)/heirs.html"
 	rm -f "$(DESTDIR)$(BINDIR)/shamir-papers" "$(DESTDIR)$(MANDIR)/man1/shamir-papers.1"
 	rm -f "$(DESTDIR)$(BASHDIR)/shamir-papers" "$(DESTDIR)$(ZSHDIR)/_shamir-papers" "$(DESTDIR)$(FISHDIR)/shamir-papers.fish"
 	rm -rf "$(DESTDIR)$(PYTHONDIR)/shamir"

@@ -30,10 +30,11 @@
  * terminating NUL; an embedded NUL is part of the text. No call writes a terminating NUL. Texts have the type char, and
  * secrets, values and random bytes have the type uint8_t. So a compiler can warn if a text and bytes are exchanged.
  *
- * Each call but shamir_wipe returns a shamir_answer. If its code is SHAMIR_DONE, the call succeeded. The output is at the start
- * of the output buffer, and the bytes after it are unchanged. The answer's field "written" is the length of the output. Any
- * other code is a refusal. On refusal the output buffer is unchanged, and "written" is 0. The output struct is unchanged too, unless
- * the output buffer is too short: then the struct is as after success.
+ * Each call of the library but shamir_wipe returns a shamir_answer. If its code is SHAMIR_DONE, the call succeeded. The output is
+ * at the start of the output buffer, and the bytes after it are unchanged. The answer's field "written" is the length of the output.
+ * Any other code is a refusal. On refusal the output buffer is unchanged, and "written" is 0. The output struct is unchanged too,
+ * unless the output buffer is too short: then the struct is as after success. Functions that stand in the header alone are tested,
+ * and not proved.
  *
  * Before a call that gets a secret, a passphrase or a mnemonic returns, it clears the stack that it used. This is tested, not
  * proved. It clears no registers. The caller clears its own buffers, with shamir_wipe. examples/c/cleared.c keeps them out of swap
