@@ -1,5 +1,5 @@
 /*
- * This program recovers the secret of each published vector, and makes each other call of shamir.h with an example. It compares the
+ * This program recovers the secret of each vector, and makes each other call of shamir.h with an example. It compares the
  * answers with values that other programs computed.
  *
  *     cc -O2 test.c shamir.c && ./a.out
@@ -36,7 +36,7 @@
     "cleanup pecan academic academic broken exact editor public best party forecast darkness " \
     "burning yelp window mama warmth market laundry response\n"
 
-/* A published vector: its mnemonics in lines, and its secret in hexadecimal digits. It has none if the mnemonics are to be refused. */
+/* A vector: its mnemonics in lines, and its secret in hexadecimal digits. It has none if the mnemonics are to be refused. */
 typedef struct {
     const char *lines;
     const char *secret;

@@ -3,7 +3,7 @@
     python3 tools/check_arm64 [--cases N] [--runs N] [--seed S] [--only NAME..]
 
 packaging/arm64/test.c tests the functions in C with which the program is linked. The library exports the calls of the header alone, and
-gives the answers of libshamir.so on generated calls (--cases), those of the published vectors, and those of tools/worked.py. The program
+gives the answers of libshamir.so on generated calls (--cases), those of the vectors in test.c, and those of tools/worked.py. The program
 agrees with tools/plain.py in tools/compare (--runs), tools/texts and tools/faults. No call of the library leaves anything secret on the
 stack, and none can reach further down than it clears, as objdump shows the archive. arm_packages.py checks the packages.
 
@@ -99,7 +99,7 @@ def of_answers(made: List[str], folder: str) -> str:
 
 
 def of_examples(folder: str) -> str:
-    """Runs the published vectors and the worked examples."""
+    """Runs the vectors in test.c and the worked examples."""
     worked.check(linked(driver.SOURCE, f"{folder}/driver"), worked.calls())
     return run(linked(ROOT / "dist" / "c" / "test.c", f"{folder}/vectors")).decode().strip()
 

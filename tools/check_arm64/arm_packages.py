@@ -98,7 +98,7 @@ def check_program(root: str, emulator: List[str]) -> None:
 
 
 def check_library(folder: str, emulator: List[str], include: str, *library: str) -> None:
-    """Runs the published vectors and the worked examples in programs that are linked with a library."""
+    """Runs the vectors in test.c and the worked examples in programs that are linked with a library."""
     compiler = [f"{TARGET}-gcc", "-std=c99", "-O1", f"-I{include}"]
     run([*compiler, str(ROOT / "dist/c/test.c"), *library, "-o", f"{folder}/linked"])
     run([*emulator, f"{folder}/linked"])

@@ -3,10 +3,10 @@
     python3 tools/check_portable [--cases N] [--seed S] [--only WORD..]
     python3 tools/check_portable --speed
 
-In an empty folder, `cc` builds the library and runs the published vectors, and CMake installs it. Compilers of C and C++ take it without
+In an empty folder, `cc` builds the library and runs the vectors in test.c, and CMake installs it. Compilers of C and C++ take it without
 warnings. It exports the calls of the header alone. On generated calls, the builds for each processor and system give the
 answers of libshamir.so, without writing past an output: on x86-64 with gcc, clang, their sanitizers and threads, for other processors
-under qemu, and for Windows under wine, where the published vectors run too. Without memory each call refuses, and the memory of a call is
+under qemu, and for Windows under wine, where these vectors run too. Without memory each call refuses, and the memory of a call is
 clear when it is freed. If the stack of the module overflows, the program stops. On x86-64, no call leaves anything secret on the C stack, or
 needs more of it than the header says, and no branch and no address depends on secret bytes but as timing.py says. For no processor, a frame
 is so large that a call could clear too little. --only names words: the parts run whose names have one of them.

@@ -45,7 +45,7 @@ def agreed(target: builds.Target, calls: List[str], right: List[str], folder: st
 
 
 def agreed_with_vectors(target: builds.Target, calls: List[str], right: List[str], folder: str) -> None:
-    """Sees that a build gives the answers of the native library, and those of the published vectors."""
+    """Sees that a build gives the answers of the native library, and those of the vectors in test.c."""
     agreed(target, calls, right, folder)
     builds.run(builds.words_of(target, builds.with_vectors(target, folder), folder))
 

@@ -115,7 +115,7 @@ def built(target: Target, folder: str) -> str:
 
 
 def with_vectors(target: Target, folder: str) -> str:
-    """Builds test.c, which has the published vectors, with dist/c for a target, and returns the program."""
+    """Builds test.c, which has the vectors, with dist/c for a target, and returns the program."""
     program = program_of("test", target, folder)
     words = ["-std=c99", *STRICT, "-Wno-overlength-strings", *target.words, f"-I{DIST}", str(DIST / "test.c")]
     run([target.compiler, *words, compiled(target.compiler, *target.words), "-o", program])

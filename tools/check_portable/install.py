@@ -21,10 +21,10 @@ endforeach()
 def is_installed(folder: str) -> None:
     """Installs the library, and builds test.c over what was installed: by CMake with each library, and by pkg-config."""
     build, prefix, user = f"{folder}/build", f"{folder}/prefix", pathlib.Path(folder, "user")
-    run(["cmake", "-S", str(builds.DIST), "-B", build, f"-DCMAKE_INSTALL_PREFIX={prefix}", "-DCMAKE_INSTALL_LIBDIR=lib"])
+    run(["cmake", "-S", str(builds.DIST), "-B", build, "-DCMAKE_INSTALL_LIBDIR=lib"])
     run(["cmake", "--build", build])
     run(["ctest", "--output-on-failure"], cwd=build)
-    run(["cmake", "--install", build])
+    run(["cmake", "--install", build, "--prefix", prefix])
     for name in ["include/shamir.h", "include/shamir.hpp", "lib/libshamir.a", "lib/libshamir.so.1", "lib/libshamir.so", "lib/pkgconfig/shamir.pc"]:
         if not pathlib.Path(prefix, name).exists():
             raise Failed(f"CMake doesn't install {name}")

@@ -71,7 +71,7 @@ def compiles_strictly(folder: str) -> None:
 
 
 def works_in_an_empty_folder(folder: str) -> str:
-    """Runs the published vectors as README.md says, and its first call. Returns what the vectors say."""
+    """Runs the vectors as README.md says, and its first call. Returns what the vectors say."""
     empty = pathlib.Path(folder, "empty")
     empty.mkdir()
     for name in ["shamir.c", "shamir.h", "test.c"]:
