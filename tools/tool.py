@@ -8,12 +8,15 @@ import pathlib
 import re
 import shutil
 import subprocess
-import sys
 from concurrent.futures import ProcessPoolExecutor
 from types import ModuleType
 from typing import Any, Iterable, Sequence, Set, Union
 
 ROOT = pathlib.Path(__file__).resolve().parent.parent
+
+
+class Failed(SystemExit):
+    """What a check finds to be wrong. If nothing catches it, the tool prints it and ends with status 1, as after `sys.exit`."""
 
 
 def tool(name: str) -> ModuleType:
@@ -33,19 +36,19 @@ def of_makefile(name: str) -> str:
 
 
 def ran(words: Sequence[Union[str, pathlib.Path]], **options: Any) -> str:
-    """Runs a command, at the top of the repository if no folder is given, and returns what it prints. If it fails, the tool prints that and exits."""
+    """Runs a command, at the top of the repository if no folder is given, and returns what it prints. Raises Failed, with that, if it fails."""
     how = {"cwd": ROOT, "stdin": subprocess.DEVNULL, "stdout": subprocess.PIPE, "stderr": subprocess.STDOUT, "text": True}
     done = subprocess.run(words, **{**how, **options})
     if done.returncode:
-        sys.exit(f"{done.stdout}{done.stderr or ''}\n{' '.join(map(str, words[:4]))} .. ended with status {done.returncode}")
+        raise Failed(f"{done.stdout}{done.stderr or ''}\n{' '.join(map(str, words[:4]))} .. ended with status {done.returncode}")
     return str(done.stdout)
 
 
 def tested(words: Sequence[Union[str, pathlib.Path]], **options: Any) -> str:
-    """Runs Python's unittest as `ran` runs a command. If it finds no test, which isn't a failure before Python 3.12, the tool says so and exits."""
+    """Runs Python's unittest as `ran` runs a command. If it finds no test, which isn't a failure before Python 3.12, it fails too."""
     told = ran(words, **options)
     if re.search(r"^Ran 0 tests", told, re.MULTILINE):
-        sys.exit(f"{told}\n{' '.join(map(str, words))} finds no test")
+        raise Failed(f"{told}\n{' '.join(map(str, words))} finds no test")
     return told
 
 

@@ -10,15 +10,11 @@ If a browser, or what the page is built with, isn't installed, its parts are lef
 `make`, is tried once more, with the same seed.
 """
 import argparse
-import concurrent.futures
-import os
 import pathlib
 import random
 import re
 import sys
 import threading
-import time
-import traceback
 
 sys.dont_write_bytecode = True
 sys.path.insert(0, str(pathlib.Path(__file__).resolve().parent))
@@ -47,11 +43,11 @@ import ways_out  # noqa: E402
 import webkit  # noqa: E402
 from hands import Page  # noqa: E402
 from left_out import left_out  # noqa: E402
+from parts import AT_ONCE, Part, all_pass, tried  # noqa: E402
 from texts import ROOT, say  # noqa: E402
 
-PARTS = ["sources", "tasks", "journey", "change", "refusals", "entry", "astray", "hasty", "long", "looks", "agreement", "privacy", "ways", "webkit"]
-# The parts that take longest, and how many parts run side by side.
-LONG, AT_ONCE = ["privacy", "change", "refusals", "tasks", "entry", "looks"], min(4, len(os.sched_getaffinity(0)))
+# Those that take longest begin first. `privacy` mostly waits.
+PARTS = ["privacy", "change", "refusals", "tasks", "entry", "looks", "journey", "astray", "hasty", "long", "agreement", "ways", "webkit", "sources"]
 PICTURES, pictures = ROOT / "page/out", threading.Event()
 # The title, the address, the entries of the history, what is stored, and what was asked for.
 KEPT = """
@@ -122,45 +118,24 @@ def check_webkit(url):
     webkit.check(url, lambda page, what: seer(lambda: page, "webkit")(what))
 
 
-def tried(name, part, check):
-    """Runs a part, and returns whether it passed."""
-    start = time.monotonic()
-    try:
-        check()
-    except Exception as fault:
-        why = fault if isinstance(fault, browsers.Failed) else f"the check itself failed\n{traceback.format_exc()}"
-        # In a check that is interrupted, browsers are ended at any step.
-        if not browsers.interrupted.is_set():
-            print(f"{name}, {part}: {why}", flush=True)
-        return False
-    print(f"{name}, {part}: passed in {time.monotonic() - start:.0f} seconds", flush=True)
-    return True
+def check_sources():
+    sources.check(ROOT / "page")
+    sources.check_types(ROOT / "page")
+    decisions.check()
 
 
 def checked(given):
-    """Runs what was asked for, and returns the status."""
+    """Runs what was asked for, and returns whether all of it passed."""
     if given.faults:
-        return 0 if tried("chromium", "faults", lambda: faults.check(ROOT / "shamir32.wasm", lambda text: print(text, flush=True))) else 1
-    wanted = given.parts
-    passed = [tried("page", "sources", lambda: (sources.check(ROOT / "page"), sources.check_types(ROOT / "page"), decisions.check()))] if "sources" in wanted else []
+        return tried(Part("chromium, faults", lambda: faults.check(ROOT / "shamir32.wasm", lambda text: print(text, flush=True))))
     modules = [ROOT / "shamir32.wasm", ROOT / "shamir.wasm"]
     url = given.page.resolve().as_uri()
-    jobs = [(name, part, check) for name in given.browser for part, check in parts_of(name, url, modules, given.cases, given.seed).items() if part in wanted]
-    if "webkit" in wanted:
-        jobs.append(("webkit", "tasks", lambda: check_webkit(url)))
-    # What takes longest begins first. `privacy` mostly waits.
-    jobs.sort(key=lambda job: LONG.index(job[1]) if job[1] in LONG else len(LONG))
-    with concurrent.futures.ThreadPoolExecutor(AT_ONCE) as pool:
-        first = list(pool.map(lambda job: tried(*job), jobs))
-    if not all(first):
-        print(f"the seed is {given.seed}", flush=True)
-    # On a busy machine a browser can miss a deadline. So a part that failed beside others is tried once more. `make` runs one part at a
-    # time, and other checks beside it.
-    is_beside = len(jobs) > 1 or "MAKELEVEL" in os.environ
-    passed += [good or (is_beside and not browsers.interrupted.is_set() and tried(*job)) for job, good in zip(jobs, first)]
-    if len(passed) > 1:
-        print(f"{sum(passed)} passed, {len(passed) - sum(passed)} failed")
-    return 0 if all(passed) else 1
+    of_browsers = {name: parts_of(name, url, modules, given.cases, given.seed) for name in given.browser} | {"page": {"webkit": lambda: check_webkit(url)}}
+    jobs = [Part(f"{name}, {part}", its[part], waits=True) for part in PARTS if part in given.parts for name, its in of_browsers.items() if part in its]
+    if "sources" in given.parts:
+        jobs.append(Part("page, sources", check_sources))
+    print(f"the seed is {given.seed}", flush=True)
+    return all_pass(jobs, AT_ONCE)
 
 
 def main():
@@ -188,7 +163,7 @@ def main():
         if given.faults:
             return 0
     with browsers.workplace():
-        return checked(given)
+        return 0 if checked(given) else 1
 
 
 if __name__ == "__main__":

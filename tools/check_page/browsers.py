@@ -18,6 +18,9 @@ import urllib.request
 
 from websocket import Closed, WebSocket
 
+sys.path.insert(0, str(pathlib.Path(__file__).resolve().parent.parent))
+from tool import Failed  # noqa: E402
+
 # A browser may take this many seconds to start, and for one answer.
 PATIENCE = 60
 NAMES = ["chromium", "firefox"]
@@ -39,10 +42,6 @@ FIREFOX_PREFERENCES = {
 # The first process of each browser that runs, with the browser's home. It is in a session of its own (setsid) with its number.
 running = {}
 interrupted = threading.Event()
-
-
-class Failed(Exception):
-    """The page, or the browser, did something else than it should."""
 
 
 def missing(names):
@@ -138,6 +137,8 @@ def workplace():
     def stop(number, _):
         print("\nmake check-page: interrupted", file=sys.stderr, flush=True)
         interrupted.set()
+        # Browsers are ended at any step of a part, so what the parts say from now on means nothing.
+        sys.stdout = open(os.devnull, "w")
         clear()
         # Another thread may have been starting a browser.
         time.sleep(0.3)
