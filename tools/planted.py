@@ -11,7 +11,7 @@ Plant = Callable[..., Callable[[], object]]
 
 
 def changed(text: str, old: str, new: str, where: str, times: int = 1) -> str:
-    """Returns a text in which a fault is planted. What it takes the place of must stand there, and no more often than it is known to."""
+    """Returns a text with a fault in it. What the fault takes the place of must stand there so many times."""
     if text.count(old) != times:
         raise Failed(f"{where} has {old!r} {text.count(old)} times, and not {times}, so nothing can be planted there")
     return text.replace(old, new)

@@ -127,7 +127,7 @@ def check_sources():
 def checked(given):
     """Runs what was asked for, and returns whether all of it passed."""
     if given.faults:
-        return tried(Part("chromium, faults", lambda: faults.check(ROOT / "shamir32.wasm", lambda text: print(text, flush=True))))
+        return tried(Part("chromium, faults", lambda: faults.check(ROOT / "shamir32.wasm")))
     modules = [ROOT / "shamir32.wasm", ROOT / "shamir.wasm"]
     url = given.page.resolve().as_uri()
     of_browsers = {name: parts_of(name, url, modules, given.cases, given.seed) for name in given.browser} | {"page": {"webkit": lambda: check_webkit(url)}}
