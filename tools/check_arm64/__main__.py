@@ -31,6 +31,7 @@ import builds  # noqa: E402
 import calls  # noqa: E402
 import cases  # noqa: E402
 import driver  # noqa: E402
+import frames  # noqa: E402
 import worked  # noqa: E402
 from builds import Failed, run  # noqa: E402
 from left_out import is_here, left_out  # noqa: E402
@@ -129,8 +130,7 @@ def of_stack(folder: str) -> str:
 
 def of_frames(folder: str) -> str:
     """Adds up the frames of the functions that a call can reach."""
-    sizes = arm_frames.sizes_of(str(BUILT / "libshamir.a"), cases.CALLS)
-    deep = [f"shamir_{call} can reach {it.reached} bytes down, and clears {it.cleared}" for call, it in sizes.items() if it.reached > it.cleared]
+    deep = frames.too_deep(arm_frames.sizes_of(str(BUILT / "libshamir.a"), cases.CALLS))
     if deep:
         raise Failed("; ".join(deep))
     return "no call can reach further down than it clears"
