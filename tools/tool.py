@@ -8,11 +8,13 @@ import pathlib
 import re
 import shutil
 import subprocess
+import time
 from concurrent.futures import ProcessPoolExecutor
 from types import ModuleType
-from typing import Any, Iterable, Sequence, Set, Union
+from typing import Any, Callable, Iterable, Sequence, Set, TypeVar, Union
 
 ROOT = pathlib.Path(__file__).resolve().parent.parent
+Found = TypeVar("Found")
 
 
 class Failed(SystemExit):
@@ -50,6 +52,14 @@ def tested(words: Sequence[Union[str, pathlib.Path]], **options: Any) -> str:
     if re.search(r"^Ran 0 tests", told, re.MULTILINE):
         raise Failed(f"{told}\n{' '.join(map(str, words))} finds no test")
     return told
+
+
+def waited(is_there: Callable[[], Found], seconds: float, pause: float = 0.03) -> Found:
+    """Waits until a function returns something, at most so many seconds, and returns what it returned last."""
+    deadline = time.monotonic() + seconds
+    while not (found := is_there()) and time.monotonic() < deadline:
+        time.sleep(pause)
+    return found
 
 
 def workers(**options: Any) -> ProcessPoolExecutor:

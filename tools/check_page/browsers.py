@@ -19,7 +19,7 @@ import urllib.request
 from websocket import Closed, WebSocket
 
 sys.path.insert(0, str(pathlib.Path(__file__).resolve().parent.parent))
-from tool import Failed  # noqa: E402
+from tool import Failed, waited  # noqa: E402
 
 # A browser may take this many seconds to start, and for one answer.
 PATIENCE = 60
@@ -90,9 +90,7 @@ class Browser:
         """Ends the browser as its user does, so that it writes what it keeps."""
         with contextlib.suppress(Closed, Failed, OSError):
             self.session.call("browser.close" if self.name == "firefox" else "session.end")
-        deadline = time.monotonic() + 15
-        while self.name == "firefox" and self.process.poll() is None and time.monotonic() < deadline:
-            time.sleep(0.1)
+        waited(lambda: self.name != "firefox" or self.process.poll() is not None, 15)
         time.sleep(0.5)
         self.kill()
 
