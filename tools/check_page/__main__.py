@@ -10,6 +10,7 @@ If a browser, or what the page is built with, isn't installed, its parts are lef
 `make`, is tried once more, with the same seed.
 """
 import argparse
+import functools
 import pathlib
 import random
 import re
@@ -58,16 +59,11 @@ KEPT = """
 """
 
 
-def seer(page_of, name):
-    """Returns what takes a picture of a screen, if pictures are wanted."""
-
-    def see(what):
-        if not pictures.is_set():
-            return
+def see(name, page, what):
+    """Takes a picture of a screen, if pictures are wanted."""
+    if pictures.is_set():
         PICTURES.mkdir(exist_ok=True)
-        (PICTURES / f"{name}-{re.sub('[^a-z0-9]+', '-', what.lower())}.png").write_bytes(page_of().picture())
-
-    return see
+        (PICTURES / f"{name}-{re.sub('[^a-z0-9]+', '-', what.lower())}.png").write_bytes(page.picture())
 
 
 def in_browser(name, url, checks):
@@ -77,23 +73,11 @@ def in_browser(name, url, checks):
         page.wait_title(say("home.title"))
         before = page.evaluate(KEPT)
         for check in checks:
-            check(page, seer(lambda: page, name))
+            check(page, functools.partial(see, name, page))
         if page.evaluate(KEPT) != before:
             raise browsers.Failed(f"what the page keeps, or what it asked for, changed from {before} to {page.evaluate(KEPT)}")
         if page.messages():
             raise browsers.Failed(f"the console has messages: {page.messages()}")
-
-
-def check_looks(name, url):
-    shown = []
-    original = looks.Page.__init__
-
-    class Seen(looks.Page):
-        def __init__(self, *given):
-            original(self, *given)
-            shown[:] = [self]
-
-    looks.check(name, url, seer(lambda: shown[0], name), Seen)
 
 
 def parts_of(name, url, modules, cases, seed):
@@ -107,15 +91,11 @@ def parts_of(name, url, modules, cases, seed):
         "astray": lambda: in_browser(name, url, astray.CHECKS),
         "hasty": lambda: in_browser(name, url, hasty.CHECKS + choices.CHECKS + [typists.check]),
         "long": lambda: in_browser(name, url, long_drill.CHECKS),
-        "looks": lambda: check_looks(name, url),
+        "looks": lambda: looks.check(name, url, functools.partial(see, name)),
         "agreement": lambda: in_browser(name, url, [lambda page, _: agreement.check(page, modules, cases, seed), lambda page, _: agreement.check_memory(page)]),
         "privacy": lambda: privacy.check(name, url, seed),
         "ways": lambda: ways_out.check(name, url),
     }
-
-
-def check_webkit(url):
-    webkit.check(url, lambda page, what: seer(lambda: page, "webkit")(what))
 
 
 def check_sources():
@@ -130,7 +110,8 @@ def checked(given):
         return tried(Part("chromium, faults", lambda: faults.check(ROOT / "shamir32.wasm")))
     modules = [ROOT / "shamir32.wasm", ROOT / "shamir.wasm"]
     url = given.page.resolve().as_uri()
-    of_browsers = {name: parts_of(name, url, modules, given.cases, given.seed) for name in given.browser} | {"page": {"webkit": lambda: check_webkit(url)}}
+    of_browsers = {name: parts_of(name, url, modules, given.cases, given.seed) for name in given.browser}
+    of_browsers["page"] = {"webkit": lambda: webkit.check(url, functools.partial(see, "webkit"))}
     jobs = [Part(f"{name}, {part}", its[part], waits=True) for part in PARTS if part in given.parts for name, its in of_browsers.items() if part in its]
     if "sources" in given.parts:
         jobs.append(Part("page, sources", check_sources))
