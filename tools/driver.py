@@ -1,18 +1,15 @@
 """Calls of the library as lines that tools/check_portable/driver.c reads, and what it answers."""
-import pathlib
 import subprocess
 from typing import List, Optional, Sequence, Union
 
-ROOT = pathlib.Path(__file__).resolve().parent.parent
+from tool import ROOT as ROOT
+from tool import Failed as Failed
+
 SOURCE = ROOT / "tools" / "check_portable" / "driver.c"
 STRICT = ["-std=c99", "-Wall", "-Wextra", "-Wconversion", "-Werror"]
 
 # Bytes or a text, a number, or NULL.
 Argument = Union[bytes, str, int, None]
-
-
-class Failed(Exception):
-    """What is wrong, such as a program that ends with another status than 0."""
 
 
 class Secret(bytes):

@@ -8,12 +8,17 @@ import pathlib
 import re
 import shutil
 import subprocess
-import sys
+import time
 from concurrent.futures import ProcessPoolExecutor
 from types import ModuleType
-from typing import Any, Iterable, Sequence, Set, Union
+from typing import Any, Callable, Iterable, Sequence, Set, TypeVar, Union
 
 ROOT = pathlib.Path(__file__).resolve().parent.parent
+Found = TypeVar("Found")
+
+
+class Failed(SystemExit):
+    """What a check finds to be wrong. If nothing catches it, the tool prints it and ends with status 1, as after `sys.exit`."""
 
 
 def tool(name: str) -> ModuleType:
@@ -33,20 +38,28 @@ def of_makefile(name: str) -> str:
 
 
 def ran(words: Sequence[Union[str, pathlib.Path]], **options: Any) -> str:
-    """Runs a command, at the top of the repository if no folder is given, and returns what it prints. If it fails, the tool prints that and exits."""
+    """Runs a command, at the top of the repository if no folder is given, and returns what it prints. Raises Failed, with that, if it fails."""
     how = {"cwd": ROOT, "stdin": subprocess.DEVNULL, "stdout": subprocess.PIPE, "stderr": subprocess.STDOUT, "text": True}
     done = subprocess.run(words, **{**how, **options})
     if done.returncode:
-        sys.exit(f"{done.stdout}{done.stderr or ''}\n{' '.join(map(str, words[:4]))} .. ended with status {done.returncode}")
+        raise Failed(f"{done.stdout}{done.stderr or ''}\n{' '.join(map(str, words[:4]))} .. ended with status {done.returncode}")
     return str(done.stdout)
 
 
 def tested(words: Sequence[Union[str, pathlib.Path]], **options: Any) -> str:
-    """Runs Python's unittest as `ran` runs a command. If it finds no test, which isn't a failure before Python 3.12, the tool says so and exits."""
+    """Runs Python's unittest as `ran` runs a command. If it finds no test, which isn't a failure before Python 3.12, it fails too."""
     told = ran(words, **options)
     if re.search(r"^Ran 0 tests", told, re.MULTILINE):
-        sys.exit(f"{told}\n{' '.join(map(str, words))} finds no test")
+        raise Failed(f"{told}\n{' '.join(map(str, words))} finds no test")
     return told
+
+
+def waited(is_there: Callable[[], Found], seconds: float, pause: float = 0.03) -> Found:
+    """Waits until a function returns something, at most so many seconds, and returns what it returned last."""
+    deadline = time.monotonic() + seconds
+    while not (found := is_there()) and time.monotonic() < deadline:
+        time.sleep(pause)
+    return found
 
 
 def workers(**options: Any) -> ProcessPoolExecutor:

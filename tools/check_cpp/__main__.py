@@ -10,7 +10,6 @@ status 1 if something differs.
 import argparse
 import pathlib
 import re
-import shutil
 import subprocess
 import sys
 import tempfile
@@ -20,11 +19,10 @@ HERE = pathlib.Path(__file__).resolve().parent
 ROOT = HERE.parent.parent
 sys.path.insert(0, str(HERE.parent))
 
-from left_out import left_out  # noqa: E402
-from tool import tool, workers  # noqa: E402
+from left_out import is_here  # noqa: E402
+from tool import ran, tool, workers  # noqa: E402
 
 manual, module, rust = tool("manual"), tool("module"), tool("rust")
-compare = module.compare
 
 HEADERS = ROOT / "include"
 COMPILERS = {"g++": "gcc", "clang++": "clang"}
@@ -44,13 +42,6 @@ MISUSED = {
 # A cursor or names that aren't written in this form can't be given as pairs.
 NAMES = re.compile(r"(?:(?:0|[1-9]\d{0,8})\.(?:0|[1-9]\d{0,8})(?:\+(?!$)|$))*")
 BATCH = 50
-
-
-def run(words):
-    """Runs a command. If it fails, the tool prints what it said and exits."""
-    done = subprocess.run(words, cwd=ROOT, stdout=subprocess.PIPE, stderr=subprocess.STDOUT, text=True)
-    if done.returncode:
-        sys.exit(f"{done.stdout[:3000]}\ntools/check_cpp: {' '.join(map(str, words))} ends with status {done.returncode}")
 
 
 def check_calls():
@@ -74,11 +65,11 @@ def check_misuse(compiler):
 def check_compiler(compiler, folder):
     """Runs the tests over both libraries."""
     portable = f"{folder}/{compiler}.o"
-    run([COMPILERS[compiler], "-O0", *MEMORY, "-c", str(ROOT / "dist" / "c" / "shamir.c"), "-o", portable])
+    ran([COMPILERS[compiler], "-O0", *MEMORY, "-c", ROOT / "dist" / "c" / "shamir.c", "-o", portable])
     for standard, flags, library in [("c++17", SANITIZED, ROOT / "libshamir.a"), ("c++20", ["-O2"], portable)]:
         program = f"{folder}/tests-{compiler}-{standard}"
-        run([compiler, f"-std={standard}", *STRICT, *flags, str(HERE / "tests.cpp"), str(library), "-o", program])
-        run([program])
+        ran([compiler, f"-std={standard}", *STRICT, *flags, HERE / "tests.cpp", library, "-o", program])
+        ran([program])
     check_misuse(compiler)
 
 
@@ -118,7 +109,7 @@ def differences(batch):
 def check_cases(compiler, folder, count, seed):
     """Compares generated cases, and returns how many."""
     program = f"{folder}/answers"
-    run([compiler, "-std=c++17", *STRICT, *SANITIZED, str(HERE / "answers.cpp"), str(ROOT / "libshamir.a"), "-o", program])
+    ran([compiler, "-std=c++17", *STRICT, *SANITIZED, HERE / "answers.cpp", ROOT / "libshamir.a", "-o", program])
     batches = [(range(at, min(at + BATCH, count)), seed, program) for at in range(0, count, BATCH)]
     tried = 0
     with workers() as pool:
@@ -135,9 +126,7 @@ def main():
     parser.add_argument("--seed", type=int, default=39)
     args = parser.parse_args()
     check_calls()
-    here = [it for it in COMPILERS if shutil.which(it)]
-    for compiler in set(COMPILERS) - set(here):
-        left_out(f"{compiler} isn't here, so it doesn't compile include/shamir.hpp")
+    here = [it for it in COMPILERS if is_here(it, "it doesn't compile include/shamir.hpp")]
     if not here:
         return
     if not (ROOT / "libshamir.a").exists():

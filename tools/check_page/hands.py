@@ -2,10 +2,10 @@
 import base64
 import contextlib
 import re
-import time
 import zlib
 
 from browsers import Failed
+from tool import waited
 
 # What the page does takes at most this many seconds.
 PATIENCE = 60
@@ -71,14 +71,7 @@ class Page:
 
     def node(self, role, name):
         """Waits until one thing with this role and name is there."""
-        deadline = time.monotonic() + PATIENCE
-        while True:
-            found = self.located(role, name)
-            if found:
-                return found[0]
-            if time.monotonic() > deadline:
-                raise Failed(f"there is no {role} {name!r} on the screen: {self.text()[:600]!r}")
-            time.sleep(0.05)
+        return self.wait(lambda: self.located(role, name), f"the {role} {name!r}")[0]
 
     def go_to(self, role, name):
         """Presses Tab, or Shift and Tab, until this has the focus. Beyond the page's end, Tab would leave the page."""
@@ -142,11 +135,11 @@ class Page:
         return self.evaluate("document.querySelector('h1').textContent")
 
     def wait(self, is_there, what):
-        deadline = time.monotonic() + PATIENCE
-        while not is_there():
-            if time.monotonic() > deadline:
-                raise Failed(f"{what} doesn't come: {self.text()[:900]!r}")
-            time.sleep(0.03)
+        """Waits until a function returns something, and returns that."""
+        found = waited(is_there, PATIENCE)
+        if not found:
+            raise Failed(f"{what} doesn't come: {self.text()[:900]!r}")
+        return found
 
     def wait_title(self, title):
         self.wait(lambda: self.title() == title, f"the screen {title!r}")

@@ -1,4 +1,6 @@
 """How the page looks: nothing wider than a narrow screen, contrast of each text, and what a hidden or a left page shows."""
+import functools
+
 from browsers import Failed, browser
 from hands import Page
 from tasks import SOUND_PAPER, begin, choose_wallet, create, found_words, type_damaged, type_paper
@@ -44,11 +46,12 @@ def check_screen(page, what, see):
     page.size(1200, 900)
 
 
-def check(name, url, see, opened=Page):
+def check(name, url, see_page):
     for is_dark in (False, True):
         mode = "dark" if is_dark else "light"
         with browser(name, is_dark) as it:
-            page = opened(it, url)
+            page = Page(it, url)
+            see = functools.partial(see_page, page)
             page.wait_title(say("home.title"))
             if page.evaluate("matchMedia('(prefers-color-scheme: dark)').matches") != is_dark:
                 raise Failed(f"{name} isn't in its {mode} mode")

@@ -17,6 +17,7 @@ from browsers import Failed, browser
 from hands import Page
 from tasks import SOUND_PAPER, begin, choose_wallet, type_paper
 from texts import say
+from tool import waited
 
 CONTROL = "<!doctype html><title>control</title><label>Plain <input type=text name=plain></label>"
 # Chromium looks at the fields of a tab every 5 seconds, or every 20 if another tab is in front.
@@ -151,9 +152,7 @@ def check_browser(name, url, control_url, is_quit, source):
         page.evaluate("document.querySelector('input').focus()")
         page.type(plain)
         page.press("Tab")
-        deadline = time.monotonic() + WRITING
-        while time.monotonic() < deadline and not search(it.home, {"the control": plain}):
-            time.sleep(1)
+        waited(lambda: search(it.home, {"the control": plain}), WRITING, 1)
         time.sleep(LOOKING)
         found = search(it.home, markers | {"the control": plain})
         if is_quit:

@@ -6,6 +6,7 @@ import tempfile
 
 from case import FIELDS, refused
 from left_out import python_with
+from tool import ran
 
 NUMBERS = ["identifier", "extendable", "exponent", "group", "group-threshold", "group-count", "member", "member-threshold"]
 SHOWN = re.compile("".join(rf"{name} (\d+) " for name in NUMBERS) + r"value ([0-9a-f]+)\n")
@@ -143,7 +144,4 @@ def of_electrum(cases):
     python = python_with("electrum.slip39")
     if python is None:
         return None
-    done = subprocess.run([python, "-c", READER], input=json.dumps(cases), capture_output=True, text=True)
-    if done.returncode:
-        raise RuntimeError(done.stderr)
-    return json.loads(done.stdout)
+    return json.loads(ran([python, "-c", READER], stdin=None, input=json.dumps(cases), stderr=subprocess.PIPE))
