@@ -6,6 +6,7 @@ import tempfile
 
 from case import FIELDS, refused
 from left_out import python_with
+from running import answer
 from tool import ran
 
 NUMBERS = ["identifier", "extendable", "exponent", "group", "group-threshold", "group-count", "member", "member-threshold"]
@@ -100,8 +101,7 @@ def of_program(program, case):
         random.write(bytes.fromhex(case.given.get("random", "")))
         random.flush()
         words, data = words_and_input(case, random.name)
-        done = subprocess.run([program, *words], input=data, capture_output=True)
-    output, errors = done.stdout.decode(), done.stderr.decode()
+        output, errors, _ = answer([program, *words], data)
     told = re.fullmatch(r"shamir: (?:line (\d+): )?(\d+) (.*)\n", errors)
     if told:
         line = {} if told[1] is None or case.asks == "parse" else {"line": int(told[1])}
