@@ -6,6 +6,7 @@ import pty
 import select
 import signal
 import subprocess
+import tempfile
 import termios
 import time
 from typing import Any, Callable, Dict, Iterable, Iterator, List, NamedTuple, Sequence, Tuple
@@ -42,6 +43,15 @@ def lines_of(texts: Iterable[str]) -> bytes:
 def redirected(words: Sequence[str], redirections: str) -> List[str]:
     """Returns the words that run a program with redirections of a shell, such as `2>&-`, which closes standard error."""
     return ["sh", "-c", f'exec "$@" {redirections}', "sh", *words]
+
+
+@contextlib.contextmanager
+def file_with(data: bytes) -> Iterator[str]:
+    """Yields the name of a new file with these bytes."""
+    with tempfile.NamedTemporaryFile() as file:
+        file.write(data)
+        file.flush()
+        yield file.name
 
 
 @contextlib.contextmanager
