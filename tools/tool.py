@@ -11,7 +11,7 @@ import subprocess
 import time
 from concurrent.futures import ProcessPoolExecutor
 from types import ModuleType
-from typing import Any, Callable, Iterable, Sequence, Set, TypeVar, Union
+from typing import Any, Callable, Dict, Iterable, Sequence, Set, TypeVar, Union
 
 ROOT = pathlib.Path(__file__).resolve().parent.parent
 Found = TypeVar("Found")
@@ -77,11 +77,17 @@ def mirrored(top: pathlib.Path, names: Iterable[Union[str, pathlib.Path]], *with
             shutil.copyfile(ROOT / name, top / name)
 
 
-def given_program() -> str:
-    """Returns the path of the program that a tool checks: the one that its option --program gives, or ./shamir."""
+def given(**others: Any) -> argparse.Namespace:
+    """Returns the options of a tool that checks the program: --program, which is ./shamir if it isn't given, and others with these values
+    if they aren't given. An option that is False otherwise takes no value."""
     parser = argparse.ArgumentParser()
-    parser.add_argument("--program", default=str(ROOT / "shamir"))
-    return os.path.abspath(parser.parse_args().program)
+    options: Dict[str, Any] = {"program": str(ROOT / "shamir"), **others}
+    for name, otherwise in options.items():
+        how: Dict[str, Any] = {"action": "store_true"} if otherwise is False else {"type": type(otherwise), "default": otherwise}
+        parser.add_argument(f"--{name}", **how)
+    found = parser.parse_args()
+    found.program = os.path.abspath(found.program)
+    return found
 
 
 def commands_of(program: Union[str, pathlib.Path]) -> Set[str]:
@@ -92,6 +98,11 @@ def commands_of(program: Union[str, pathlib.Path]) -> Set[str]:
 def options_of(program: Union[str, pathlib.Path], *words: str) -> Set[str]:
     """Returns the options that the help of the program or of a command names."""
     return set(re.findall(r"^ +(?:-\w, )?(--[a-z-]+)", ran([program, *words, "--help"]), re.MULTILINE))
+
+
+def symbols_of(program: Union[str, pathlib.Path], *options: str) -> Set[str]:
+    """Returns the dynamic symbols of a program that nm shows with these options, without their versions."""
+    return {line.split()[-1].partition("@")[0] for line in ran(["nm", "-D", *options, program]).splitlines()}
 
 
 def faults_library(folder: str, compiler: Sequence[str]) -> str:
