@@ -1,30 +1,10 @@
 """Where an owner who reads only the screen could go astray: papers that don't work, results that say too much, and what may be destroyed."""
 from browsers import Failed
-from entry import with_words as of_sound
 from looks import check_screen
-from refusals import changed, paste
-from tasks import FINGERPRINT, PASSPHRASE, SOUND_PAPER, THREE_GROUPS, answer_passphrase, begin, end, example, fingerprint_of, found_words, plain, read_paper, type_damaged, type_paper
+from refusals import paste
+from samples import FINGERPRINT, PASSPHRASE, SOUND_PAPER, THREE_GROUPS, TWO, changed, fingerprint_of, name_of, named, opening, papers_of, swapped, with_words
+from tasks import answer_passphrase, begin, end, found_words, read_paper, type_damaged, type_paper
 from texts import counted, say
-
-
-def papers_of(plan):
-    """Returns the papers of a backup without a passphrase, by the plain reading."""
-    plan = plain.parse_plan(plan)
-    shares = plain.create(plan, bytes(range(16)), b"", 0, False, bytes(range(plain.random_needed(plan, 16))))
-    return [plain.mnemonic(share) for share in shares]
-
-
-def name_of(line):
-    share = plain.parse(line.encode())
-    return f"{share['group']}.{share['member']}"
-
-
-def with_words(line, changes):
-    """Returns a paper with other words at some places, counted from 1."""
-    words = line.split()
-    for place, word in changes.items():
-        words[place - 1] = word
-    return " ".join(words)
 
 
 def silent(page, text):
@@ -47,11 +27,10 @@ def clear(page):
 
 def leave_out(page, papers):
     """Pastes paper 0.3 with a wrong word, and paper 0.4 with two words that changed places, and empties the fields."""
-    words = papers[4].split()
     paste(page, with_words(papers[3], {17: "acid"}))
     page.wait_text("If the paper says the same, it is miswritten: 'Read a damaged paper'")
     page.push(say("entry.empty"))
-    paste(page, with_words(papers[4], {9: words[9], 10: words[8]}))
+    paste(page, swapped(papers[4], 9))
     page.wait_text("If they agree, the paper itself is wrong")
     page.push(say("entry.empty"))
 
@@ -70,8 +49,8 @@ def check_left_out(page, see):
         answer_passphrase(page, None, noted)
         page.push(say("drill.start"))
         page.wait_title(say("check.done.left_out" if left else "check.done.good"))
-        names = [name_of(line) for line in papers if line in papers[:3] + papers[5:] or line == papers[3] and left < 2 or not left]
-        page.wait_text(say("verdict.papers", names=", ".join(names)))
+        tried = [line for line in papers if line in papers[:3] + papers[5:] or line == papers[3] and left < 2 or not left]
+        page.wait_text(say("verdict.papers", names=named(tried)))
         if left:
             page.wait_text(counted(left, "left"))
             see(f"{left} papers that were left out")
@@ -112,7 +91,7 @@ def check_impossible(page, see):
     page.wait_text(say("status.group", group=12))
     clear(page)
     begin(page, "damaged")
-    type_damaged(page, of_sound({7: "_", 9: "fr__"}))
+    type_damaged(page, with_words(SOUND_PAPER, {7: "_", 9: "fr__"}))
     page.wait_text(say("damaged.sure", name="0.0"))
     page.wait(lambda: "length" in found_words(page) and "fridge" in found_words(page), "the words in place of lines")
     clear(page)
@@ -242,15 +221,10 @@ def check_without(page, see):
         end(page)
 
 
-def begin_of(line):
-    return " ".join(line.split()[:2])
-
-
 def check_apart(page, see):
     """Papers of several backups are kept apart, also if the first one is the wrong one. The owner goes on with those of one, and the result
     tells of the others."""
-    two = example("two-needed.txt")
-    own, other, third = map(begin_of, (THREE_GROUPS[0], SOUND_PAPER, two[0]))
+    own, other, third = map(opening, (THREE_GROUPS[0], SOUND_PAPER, TWO[0]))
     begin(page, "check")
     take(page, [SOUND_PAPER])
     paste(page, THREE_GROUPS[0])
@@ -263,8 +237,8 @@ def check_apart(page, see):
         page.wait_text(say("collect.taken.of", name=name_of(line), begin=own))
     paste(page, SOUND_PAPER)
     page.wait_text(say("collect.repeated", name="0.0"))
-    paste(page, two[0])
-    page.wait_text(say("collect.taken.apart", name=name_of(two[0]), begin=third))
+    paste(page, TWO[0])
+    page.wait_text(say("collect.taken.apart", name=name_of(TWO[0]), begin=third))
     page.wait_text(say("collect.apart", count=3))
     paste(page, changed(THREE_GROUPS[4], exponent=3))
     page.wait_text(say("refused.23"))
@@ -281,12 +255,12 @@ def check_apart(page, see):
     page.push(say("drill.start"))
     page.wait_title(say("check.done.left_out"))
     page.wait_text(say("verdict.all.noted", quorums=counted(3, "quorum"), fingerprint=FINGERPRINT))
-    for text in (say("left.backup.one", names="0.0", begin=other), say("left.backup.one", names=name_of(two[0]), begin=third), say("left.sound.one", names="2.0")):
+    for text in (say("left.backup.one", names="0.0", begin=other), say("left.backup.one", names=name_of(TWO[0]), begin=third), say("left.sound.one", names="2.0")):
         page.wait_text(text)
     see("a result beside papers of other backups")
     page.push(say("collect.back"))
     page.wait_text(say("collect.apart", count=3))
-    page.push(say("collect.drop.of", name=name_of(two[0]), begin=third))
+    page.push(say("collect.drop.of", name=name_of(TWO[0]), begin=third))
     page.wait_text(say("collect.apart", count=2))
     page.push(say("collect.drop.of", name="0.0", begin=other))
     page.wait(lambda: say("status.backup", begin=own) not in page.text(), "the papers of one backup, as they are without others")
@@ -295,7 +269,7 @@ def check_apart(page, see):
     clear(page)
     # The backup that is chosen is the one that is too few.
     begin(page, "recover")
-    take(page, two[:1])
+    take(page, TWO[:1])
     paste(page, SOUND_PAPER)
     page.wait_text(say("collect.taken.apart", name="0.0", begin=other))
     page.push(say("collect.end.of", begin=third))
@@ -347,8 +321,8 @@ def check_several_repaired(page, see):
         page.push(say("entry.lost.go"))
         page.wait_title(say("damaged.check.title"))
         paste(page, SOUND_PAPER)
-        page.wait_text(f"{say('collect.taken.apart', name='0.0', begin=begin_of(SOUND_PAPER))} {say('refused.repaired.many', names='0.1, 0.2')}")
-        page.push(say("collect.drop.of", name="0.0", begin=begin_of(SOUND_PAPER)))
+        page.wait_text(f"{say('collect.taken.apart', name='0.0', begin=opening(SOUND_PAPER))} {say('refused.repaired.many', names='0.1, 0.2')}")
+        page.push(say("collect.drop.of", name="0.0", begin=opening(SOUND_PAPER)))
         see("several repaired papers")
         page.push(say("collect.end"))
         answer_passphrase(page, None, noted)

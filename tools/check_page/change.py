@@ -2,17 +2,17 @@
 
 What old and new papers give is computed by the plain reading.
 """
-import itertools
-
 from browsers import Failed
 from choices import DRAWN, FOREKNOWN, PHONE, check_green
 from long_drill import check_bar
-from refusals import changed, paste, said
-from tasks import FINGERPRINT, PASSPHRASE, SECRET, THREE_GROUPS, answer_passphrase, begin, end, fingerprint_of, plain, read_paper
+from refusals import paste, said
+from samples import FINGERPRINT, PASSPHRASE, SECRET, THREE_GROUPS, changed, check_renewed, fingerprint_of, name_of, papers_of
+from tasks import answer_passphrase, begin, end, read_paper
 from texts import counted, say
 
+import plain
+
 WIDE = (1280, 900)
-OTHER = "another passphrase"
 # Notes whether the page ever shows the digits of a secret.
 WATCH = """
 window.isSeen = false;
@@ -25,17 +25,9 @@ SEEN = "window.watch.disconnect(); window.isSeen"
 
 def old_papers(exponent=0):
     """Returns the papers of an extendable backup of the secret with the passphrase: 2/2of3,1of1,1of1."""
-    plan = plain.parse_plan("2/2of3,1of1,1of1")
-    random = bytes(at * 11 % 256 for at in range(plain.random_needed(plan, 16)))
-    if exponent == 0:
-        return [plain.mnemonic(share) for share in plain.create(plan, bytes.fromhex(SECRET), PASSPHRASE.encode(), exponent, True, random)]
-    # To derive the key would take long. These papers are of some other secret.
-    return [changed(line, exponent=exponent) for line in old_papers()]
-
-
-def name_of(line):
-    share = plain.parse(line.encode())
-    return f"{share['group']}.{share['member']}"
+    papers = papers_of("2/2of3,1of1,1of1", PASSPHRASE, 0, True, bytes.fromhex(SECRET))
+    # To derive the key with a high exponent would take long. Then the papers are of some other secret.
+    return [changed(line, exponent=exponent) for line in papers]
 
 
 def pictures(page, see, what):
@@ -89,22 +81,6 @@ def write(page, see, old, is_checked=False):
     return new
 
 
-def check_new(new, old, plan, extendable, exponent):
-    """Compares new papers with old ones, by the plain reading."""
-    shares, first = [plain.parse(line.encode()) for line in new], plain.parse(old[0].encode())
-    found = [f"{len(list(group))} of group {number}" for number, group in itertools.groupby(shares, lambda it: it["group"])]
-    needed, groups = plain.parse_plan(plan)
-    wanted = [f"{count} of group {number}" for number, (_, count) in enumerate(groups)]
-    if found != wanted or any((it["group_threshold"], it["member_threshold"]) != (needed, groups[it["group"]][0]) for it in shares):
-        raise Failed(f"the papers aren't those of the plan {plan}: {found}")
-    if any(it["id"] == first["id"] or it["extendable"] != extendable or it["exponent"] != exponent or len(it["value"]) != len(first["value"]) for it in shares):
-        raise Failed("the new papers have the old identifier, or another flag, exponent or length than they should")
-    for passphrase in (PASSPHRASE, "", OTHER):
-        is_same = fingerprint_of(old, passphrase) == fingerprint_of(new, passphrase)
-        if is_same != (passphrase == PASSPHRASE or extendable == first["extendable"] == 1):
-            raise Failed(f"with the passphrase {passphrase!r}, old and new papers {'agree' if is_same else 'differ'}")
-
-
 def start(page, lines):
     page.evaluate(WATCH % SECRET)
     begin(page, "change")
@@ -149,7 +125,7 @@ def check_extendable(page, see):
     pictures(page, see, "the new plan")
     page.push(say("continue"))
     new = write(page, see, old, is_checked=True)
-    check_new(new, [old[0], old[1], old[3]], "3of5", 1, 0)
+    check_renewed([old[0], old[1], old[3]], new, "3of5", 1)
     # No wallet and no passphrase was asked for.
     page.wait_text(say("step", at=5, count=6))
     pictures(page, see, "what was noted")
@@ -176,7 +152,7 @@ def check_bare(page, see):
         start(page, [old[3], old[4]])
         page.push(say("continue"))
         new = write(page, see, old)
-        check_new(new, [old[3], old[4]], "2of3", 1, 0)
+        check_renewed([old[3], old[4]], new, "2of3", 1)
         if passphrase is None:
             # What was typed before isn't taken.
             answer_passphrase(page, "TREZOr", FINGERPRINT)
@@ -217,7 +193,7 @@ def check_renewed(page, see):
             page.fill(say("passphrase.label"), PASSPHRASE)
             page.push(say("continue"))
         new = write(page, see, old)
-        check_new(new, old, "2of3", int(wallet == "flag"), 0)
+        check_renewed(old, new, "2of3", int(wallet == "flag"))
         if not noted:
             answer_passphrase(page, "TREZOr", None)
             page.push(say("drill.start"))
@@ -338,7 +314,7 @@ def check_identifier(page, _):
             page.push(say("continue"))
             answer_passphrase(page, PASSPHRASE, FINGERPRINT)
         new = write(page, lambda _: None, lines)
-        check_new(new, lines, "2of3", share["extendable"], 0)
+        check_renewed(lines, new, "2of3", share["extendable"])
         if plain.parse(new[0].encode())["id"] != int.from_bytes(DRAWN[:2], "big"):
             raise Failed("the random bytes that were to be drawn weren't")
         page.push(say("clear"))

@@ -3,9 +3,12 @@ what one paper says."""
 import json
 
 from browsers import Failed
-from refusals import BAD_CHECKSUM, BIP39, changed, paste, said
-from tasks import FINGERPRINT, PASSPHRASE, SECRET, SOUND_PAPER, THREE_GROUPS, answer_passphrase, begin, choose_wallet, create, end, example, fingerprint_of, plain, read_paper, type_digits, type_paper
-from texts import ROOT, counted, say
+from refusals import paste, said
+from samples import BAD_CHECKSUM, BIP39, FINGERPRINT, PASSPHRASE, ROOT, SECRET, SOUND_PAPER, THREE_GROUPS, TWO, changed, fingerprint_of, name_of, said_kind
+from tasks import answer_passphrase, begin, choose_wallet, create, end, read_paper, type_digits, type_paper
+from texts import counted, say
+
+import plain
 
 # The version that the page tells, as the package of the engine has it.
 VERSION = json.loads((ROOT / "bindings/js/package.json").read_text())["version"]
@@ -250,37 +253,24 @@ def check_looks_of_results(page, see):
     end(page)
 
 
-def said_kind(line):
-    """Returns what the page must say of a paper, by the plain reading."""
-    share = plain.parse(line.encode())
-    members, groups = share["member_threshold"] - 1, share["group_threshold"] - 1
-    papers, whole = counted(members, "paper"), counted(groups, "whole")
-    others = {
-        (False, False): say("what.others.none"),
-        (True, False): say("what.others.papers" if share["group_count"] == 1 else "what.others.group", papers=papers, group=share["group"]),
-        (False, True): say("what.others.groups", groups=whole),
-        (True, True): say("what.others.both", papers=papers, group=share["group"], groups=whole),
-    }[members > 0, groups > 0]
-    flag = say("what.flag" if share["extendable"] else "what.flag.none")
-    first, second = line.split()[:2]
-    return [say("what.backup", first=first, second=second), others, flag, say("what.exponent", exponent=share["exponent"]), say("what.secret", bytes=len(share["value"]))]
-
-
 def told_of(page):
     """Returns the lines that tell what a paper is."""
     return page.evaluate("[...document.querySelectorAll('.told li')].map((it) => it.innerText).join('\\n')").split("\n")
 
 
+def is_told(page, line):
+    return set(said_kind(line, say, counted)) <= set(told_of(page))
+
+
 def check_what(page, see):
     """One paper says what it is. A damaged one doesn't, nor does a phrase of BIP-39."""
     begin(page, "what")
-    lines = [SOUND_PAPER, example("two-needed.txt")[0], *THREE_GROUPS[2:4], changed(SOUND_PAPER, extendable=1, exponent=3), changed(THREE_GROUPS[0], group_threshold=1)]
+    lines = [SOUND_PAPER, TWO[0], *THREE_GROUPS[2:4], changed(SOUND_PAPER, extendable=1, exponent=3), changed(THREE_GROUPS[0], group_threshold=1)]
     for line in lines:
-        share = plain.parse(line.encode())
         paste(page, line)
-        page.wait_text(say("what.sound", name=f"{share['group']}.{share['member']}"))
+        page.wait_text(say("what.sound", name=name_of(line)))
         # The paper before may have the same name, and its answer may still stand there.
-        page.wait(lambda: set(said_kind(line)) <= set(told_of(page)), f"what {line!r} is")
+        page.wait(lambda: is_told(page, line), f"what {line!r} is")
         if len(told_of(page)) != 6:
             raise Failed(f"the page says of {line!r}: {told_of(page)}")
         if line == THREE_GROUPS[2]:
@@ -288,7 +278,7 @@ def check_what(page, see):
     check_green(page, [])
     page.size(*PHONE)
     paste(page, THREE_GROUPS[2])
-    page.wait(lambda: set(said_kind(THREE_GROUPS[2])) <= set(told_of(page)), "what a paper is, on a phone")
+    page.wait(lambda: is_told(page, THREE_GROUPS[2]), "what a paper is, on a phone")
     page.wait(lambda: page.evaluate(IN_SIGHT % "document.querySelector('.told')"), "what a paper is in sight of its fields")
     see("phone what a paper is")
     page.size(1200, 900)

@@ -3,7 +3,8 @@ import time
 
 from browsers import Failed
 from looks import words_shown
-from refusals import SOUND, changed, paste
+from refusals import paste
+from samples import SOUND_PAPER, changed
 from tasks import answer_passphrase, begin, choose_wallet, create, end
 from texts import say
 
@@ -106,7 +107,7 @@ def begin_long(page):
 def check_stop(page, see):
     """'Stop' works before the page has its copy of what the worker holds, and if no other worker starts."""
     begin(page, "recover")
-    paste(page, changed(SOUND, exponent=14))
+    paste(page, changed(SOUND_PAPER, exponent=14))
     page.wait_text(say("collect.taken", name="0.0"))
     page.push(say("collect.end"))
     page.evaluate(ASK % "keep")

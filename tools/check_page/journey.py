@@ -4,7 +4,8 @@ import json
 
 from browsers import Failed
 from refusals import paste
-from tasks import FINGERPRINT, PASSPHRASE, SOUND_PAPER, THREE_GROUPS, answer_passphrase, begin, choose_wallet, create, end, plain, read_paper
+from samples import FINGERPRINT, PASSPHRASE, SOUND_PAPER, THREE_GROUPS, name_of
+from tasks import answer_passphrase, begin, choose_wallet, create, end, read_paper
 from texts import say
 
 # Notes the title, the step and the buttons to press next of each screen, as it comes and as it changes.
@@ -61,9 +62,8 @@ def check_steps(page, see):
 
 def type_all(page, lines):
     for line in lines:
-        share = plain.parse(line.encode())
         paste(page, line)
-        page.wait_text(say("collect.taken", name=f"{share['group']}.{share['member']}"))
+        page.wait_text(say("collect.taken", name=name_of(line)))
     page.push(say("collect.end"))
 
 

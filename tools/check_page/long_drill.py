@@ -3,30 +3,23 @@ import math
 
 from browsers import Failed
 from choices import check_green
-from refusals import SOUND, changed, paste
-from tasks import answer_passphrase, begin, choose_wallet, end, fingerprint_of, plain
+from refusals import paste
+from samples import SOUND_PAPER, changed, fingerprint_of, name_of, papers_of
+from tasks import answer_passphrase, begin, choose_wallet, end
 from texts import say
 
 # A plan with more quorums than a drill tries: three groups of eight papers, four of each needed.
 GROUPS, MEMBERS, NEEDED = 3, 8, 4
 FIRST = 1000
-SECRET = bytes(range(16, 32))
-
-
-def big_backup():
-    plan = plain.parse_plan(f"{GROUPS}/" + ",".join([f"{NEEDED}of{MEMBERS}"] * GROUPS))
-    random = bytes(at * 7 % 256 for at in range(plain.random_needed(plan, len(SECRET))))
-    return [plain.mnemonic(share) for share in plain.create(plan, SECRET, b"", 0, True, random)]
 
 
 def check_big(page, see):
     """The first quorums are tried, and one with each paper. The page doesn't say that all were."""
-    lines = big_backup()
+    lines = papers_of(f"{GROUPS}/" + ",".join([f"{NEEDED}of{MEMBERS}"] * GROUPS))
     begin(page, "check")
     for line in lines:
-        share = plain.parse(line.encode())
         paste(page, line)
-        page.wait_text(say("collect.taken", name=f"{share['group']}.{share['member']}"))
+        page.wait_text(say("collect.taken", name=name_of(line)))
     page.push(say("collect.end"))
     fingerprint = fingerprint_of([line for group in range(GROUPS) for line in lines[group * MEMBERS : group * MEMBERS + NEEDED]], "")
     answer_passphrase(page, None, fingerprint)
@@ -65,7 +58,7 @@ def check_bar(page):
 def check_stop(page, see):
     """A recovery with a high exponent says how long it takes, and stops. The papers stay."""
     begin(page, "recover")
-    paste(page, changed(SOUND, exponent=14))
+    paste(page, changed(SOUND_PAPER, exponent=14))
     page.wait_text(say("collect.taken", name="0.0"))
     page.push(say("collect.end"))
     answer_passphrase(page, "TREZOR", None)
@@ -84,7 +77,7 @@ def check_stop(page, see):
 def check_stop_drill(page, see):
     """A drill that is stopped before its first quorum says only that, and no verdict on the papers."""
     begin(page, "check")
-    paste(page, changed(SOUND, exponent=14))
+    paste(page, changed(SOUND_PAPER, exponent=14))
     page.wait_text(say("collect.taken", name="0.0"))
     page.push(say("collect.end"))
     answer_passphrase(page, "TREZOR", None)

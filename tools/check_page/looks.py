@@ -3,7 +3,8 @@ import functools
 
 from browsers import Failed, browser
 from hands import Page
-from tasks import SOUND_PAPER, begin, choose_wallet, create, found_words, type_damaged, type_paper
+from samples import SOUND_PAPER
+from tasks import begin, choose_wallet, create, found_words, type_damaged, type_paper
 from texts import say
 
 # The contrast that WCAG 2.2 asks for at level AA: of a text, and of a large one.

@@ -15,7 +15,8 @@ import zlib
 
 from browsers import Failed, browser
 from hands import Page
-from tasks import SOUND_PAPER, begin, choose_wallet, type_paper
+from samples import SOUND_PAPER
+from tasks import begin, choose_wallet, type_paper
 from texts import say
 from tool import waited
 

@@ -2,20 +2,14 @@
 import json
 
 from browsers import Failed
-from tasks import FINGERPRINT, PASSPHRASE, SECRET, THREE_GROUPS, answer_passphrase, begin, choose_wallet, end, example, plain, type_digits, type_paper
+from samples import BAD_CHECKSUM, BAD_PADDING, BIP39, EXCHANGED, FINGERPRINT, PASSPHRASE, SECRET, SOUND_PAPER, THREE_GROUPS
+from samples import changed, name_of, opening, refused_beside, with_words
+from tasks import answer_passphrase, begin, choose_wallet, end, type_digits, type_paper
 from texts import counted, say
 
-SOUND = example("one-of-one.txt")[0]
-# Published vectors of SLIP-0039. In the first, word 20 is wrong.
-BAD_CHECKSUM = SOUND.replace("keyboard", "kidney")
-EXCHANGED = SOUND.replace("length solution", "solution length")
-BAD_PADDING = "duckling enlarge academic academic email result length solution fridge kidney coal piece deal husband erode duke ajar music cargo fitness"
-BIP39 = "legal winner thank year wave sausage worth useful legal winner thank yellow"
+import plain
 
-
-def changed(line, **fields):
-    """Returns the mnemonic of a share with other fields."""
-    return plain.mnemonic(plain.parse(line.encode()) | fields)
+WRONG_WORD = with_words(SOUND_PAPER, {7: "lend"})
 
 
 def said(number, **values):
@@ -25,21 +19,13 @@ def said(number, **values):
 
 def of_one_paper():
     """Returns papers that are refused by themselves, or beside the first paper of the example."""
-    first = THREE_GROUPS[0]
-    value = plain.parse(first.encode())["value"]
     return [
-        ("one wrong word", BAD_CHECKSUM, said(18, first=20)),
-        ("another wrong word", SOUND.replace("length", "lend"), said(18, first=7)),
-        ("two words that changed places", EXCHANGED, said(13)),
-        ("bad padding", BAD_PADDING, said(14)),
-        ("too many groups needed", changed(first, group_threshold=16), said(15)),
-        ("another flag", changed(first, extendable=1), said(22)),
-        ("another exponent", changed(first, exponent=3), said(23)),
-        ("another number of needed groups", changed(first, group_threshold=1), said(24)),
-        ("another number of groups", changed(first, group_count=4), said(25)),
-        ("another length", changed(first, value=value + value), said(26)),
-        ("another number of needed members", changed(first, member=5, member_threshold=3), said(27, first=0)),
-        ("another value", changed(first, value=value[::-1]), said(28, first=0, second=0)),
+        (BAD_CHECKSUM, said(18, first=20)),
+        (WRONG_WORD, said(18, first=7)),
+        (EXCHANGED, said(13)),
+        (BAD_PADDING, said(14)),
+        (changed(THREE_GROUPS[0], group_threshold=16), said(15)),
+        *((line, said(number, **values)) for line, number, values in refused_beside(THREE_GROUPS[0])),
     ]
 
 
@@ -48,11 +34,11 @@ def check_papers(page, see):
     begin(page, "check")
     type_paper(page, THREE_GROUPS[0], is_by_four=True)
     page.wait_text(say("collect.taken", name="0.0"))
-    for what, line, text in of_one_paper():
+    for line, text in of_one_paper():
         type_paper(page, line, is_by_four=True)
         page.wait_text(text)
-        if what == "another wrong word":
-            see(what)
+        if line == WRONG_WORD:
+            see("another wrong word")
             check_wrong_word(page)
         else:
             page.push(say("entry.empty"))
@@ -78,18 +64,15 @@ def check_wrong_word(page):
     if not page.has_focus(page.node("textbox", say("entry.word", number=7))):
         raise Failed("the focus doesn't go to the wrong word")
     page.type("leng")
-    begin_of = " ".join(SOUND.split()[:2])
-    page.wait_text(say("collect.taken.apart", name="0.0", begin=begin_of))
-    page.push(say("collect.drop.of", name="0.0", begin=begin_of))
+    page.wait_text(say("collect.taken.apart", name="0.0", begin=opening(SOUND_PAPER)))
+    page.push(say("collect.drop.of", name="0.0", begin=opening(SOUND_PAPER)))
     page.wait_text(say("collect.dropped", name="0.0"))
 
 
 def check_words(page, see):
     """A word that isn't in the list is marked, and nothing is put in its place. A paper of 21 words, and words of BIP-39."""
     begin(page, "check")
-    words = SOUND.split()
-    words[2] = "acdemic"
-    type_paper(page, " ".join(words))
+    type_paper(page, with_words(SOUND_PAPER, {3: "acdemic"}))
     page.wait_text(say("entry.unknown", number=3))
     page.wait(lambda: page.evaluate("document.getElementById('live').textContent") != "", "what a screen reader is told of an unknown word")
     see("an unknown word")
@@ -105,7 +88,7 @@ def check_words(page, see):
     page.evaluate("document.activeElement.select()")
     page.type("21")
     page.go_to("textbox", say("entry.word", number=1))
-    page.type(" ".join(words[:2] + ["academic"] + words[3:] + ["acid"]) + " ")
+    page.type(f"{SOUND_PAPER} acid ")
     page.wait_text(said(12, first=21))
     page.push(say("entry.empty"))
     page.push(say("entry.words", count=20))
@@ -116,7 +99,7 @@ def check_words(page, see):
     paste(page, BIP39)
     page.wait_text(say("entry.bip39", count=12))
     page.push(say("entry.empty"))
-    paste(page, " ".join(["duckl1ng", *SOUND.split()[1:12]]).replace("1", "x"))
+    paste(page, " ".join(["duckl1ng", *SOUND_PAPER.split()[1:12]]).replace("1", "x"))
     page.wait_text(say("entry.missing", number=13, count=12, fields=20))
     page.push(say("entry.empty"))
     paste(page, BAD_CHECKSUM)
@@ -127,7 +110,7 @@ def check_words(page, see):
     page.wait_text(say("collect.dropped", name="0.0"))
     # As a blank form prints it.
     heading = f"{say('blank.heading')} {say('blank.name', name='0.0')}\n"
-    numbered = "".join(f"{number}. {word.upper()},\n" for number, word in enumerate(SOUND.split(), 1))
+    numbered = "".join(f"{number}. {word.upper()},\n" for number, word in enumerate(SOUND_PAPER.split(), 1))
     paste(page, heading + numbered)
     page.wait_text(say("collect.taken", name="0.0"))
     page.push(say("clear"))
@@ -234,7 +217,7 @@ def check_mixed(page, see):
     page.push(say("collect.more"))
     for line in THREE_GROUPS[1:3]:
         paste(page, line)
-        page.wait_text(say("collect.taken", name=f"0.{plain.parse(line.encode())['member']}"))
+        page.wait_text(say("collect.taken", name=name_of(line)))
     page.push(say("collect.end"))
     one, two, whole = counted(1, "paper"), counted(2, "paper"), counted(2, "whole")
     for group, needed, text in [(1, "1", said(66, group=1, more=one, whole=whole, groups=1)), (2, "2", said("66.fewer", group=2, more=two, fewer=one, whole=whole, groups=1))]:
@@ -308,8 +291,7 @@ def check_recovery(page, see):
             begin(page, task)
             for line in lines:
                 paste(page, line)
-                share = plain.parse(line.encode())
-                page.wait_text(say("collect.taken", name=f"{share['group']}.{share['member']}"))
+                page.wait_text(say("collect.taken", name=name_of(line)))
             page.push(say("collect.end"))
             answer_passphrase(page, "p\u00e4ssword", FINGERPRINT)
             page.wait_text(said(41, first=2))

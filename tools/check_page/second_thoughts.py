@@ -1,7 +1,8 @@
 """What an owner takes back: a paper that was taken out, and fields that were emptied. Words that are offered, and how numbers are written."""
 from browsers import Failed
 from refusals import paste
-from tasks import SOUND_PAPER, THREE_GROUPS, begin
+from samples import SOUND_PAPER, THREE_GROUPS
+from tasks import begin
 from texts import counted, say
 
 WORDS = "[...document.querySelectorAll('.word:not([hidden]) input')].map((it) => it.value).join(' ')"

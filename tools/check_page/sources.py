@@ -1,17 +1,12 @@
 """Reads the sources of the page: what must not stand in them, since no policy of a browser stops it, and the table of texts."""
 import json
-import pathlib
 import re
 import shutil
 import subprocess
-import sys
 import tempfile
 
 from browsers import Failed
-
-ROOT = pathlib.Path(__file__).resolve().parent.parent.parent
-sys.path.append(str(ROOT / "tools"))
-from left_out import left_out  # noqa: E402
+from left_out import left_out
 
 # What lets something out of the page, or keeps it in the browser. A policy doesn't stop all of these.
 FORBIDDEN = [

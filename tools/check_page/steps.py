@@ -1,8 +1,11 @@
 """The ways back, what Enter does in a field that isn't a word's, and the questions for the plan of papers."""
 from browsers import Failed
 from refusals import paste
-from tasks import FINGERPRINT, PASSPHRASE, SOUND_PAPER, THREE_GROUPS, begin, choose_wallet, create, example, plain, read_paper
+from samples import FINGERPRINT, PASSPHRASE, SOUND_PAPER, THREE_GROUPS, TWO, name_of
+from tasks import begin, choose_wallet, create, read_paper
 from texts import counted, say
+
+import plain
 
 
 # Returns where the way back stands.
@@ -97,16 +100,16 @@ def check_which(page, see):
     begin(page, "replace")
     page.choose(say("replace.destroyed"))
     page.push(say("continue"))
-    for line in [THREE_GROUPS[0], THREE_GROUPS[2], THREE_GROUPS[3]]:
+    here = [THREE_GROUPS[0], THREE_GROUPS[2], THREE_GROUPS[3]]
+    for line in here:
         paste(page, line)
-        share = plain.parse(line.encode())
-        page.wait_text(say("collect.taken", name=f"{share['group']}.{share['member']}"))
+        page.wait_text(say("collect.taken", name=name_of(line)))
     page.push(say("collect.end"))
     page.wait_title(say("replace.which"))
     if page.evaluate("Boolean(document.querySelector('#main .picture').compareDocumentPosition(document.querySelector('#main .buttons')) & 4)"):
         raise Failed("the buttons don't stand below the choices, but below the picture of the papers")
     offered = page.evaluate("[...document.querySelectorAll('[role=radio] strong')].map((it) => it.textContent).join(', ')")
-    names = {f"{it['group']}.{it['member']}" for it in (plain.parse(line.encode()) for line in (THREE_GROUPS[0], THREE_GROUPS[2], THREE_GROUPS[3]))}
+    names = set(map(name_of, here))
     if names != {"0.0", "0.2", "1.0"} or offered != ", ".join([*(say("which.paper", name=name) for name in ("0.1", "0.3", "2.0")), say("which.other")]):
         raise Failed(f"beside {names}, these papers are offered: {offered}")
     page.push(say("which.write"))
@@ -142,13 +145,12 @@ def check_which(page, see):
 
 def check_one_group(page, _):
     """Of a backup with one group, the page says what is enough to write a paper."""
-    papers = example("two-needed.txt")
     begin(page, "replace")
     page.choose(say("replace.destroyed"))
     page.push(say("continue"))
-    paste(page, papers[0])
+    paste(page, TWO[0])
     page.wait_text(say("replace.not_enough", needed=counted(2, "paper"), here=1))
-    paste(page, papers[1])
+    paste(page, TWO[1])
     page.wait_text(say("replace.enough"))
     page.push(say("collect.end"))
     page.choose(say("which.paper", name="0.1"))
@@ -160,7 +162,7 @@ def check_one_group(page, _):
     begin(page, "replace")
     page.choose(say("replace.destroyed"))
     page.push(say("continue"))
-    paste(page, example("one-of-one.txt")[0])
+    paste(page, SOUND_PAPER)
     page.wait_text(say("status.enough"))
     page.push(say("collect.end"))
     page.wait_text(say("replace.none"))

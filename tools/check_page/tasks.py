@@ -1,33 +1,10 @@
 """Each task of the page from its start to its end, by keyboard alone.
 
-The values that the page must show are from outside: from examples/, from tools/plain.py, or from ./shamir.
+The values that the page must show are from outside (tools/samples.py).
 """
-import pathlib
-import sys
-
 from browsers import Failed
+from samples import FINGERPRINT, PASSPHRASE, SECRET, SOUND_PAPER, THREE_GROUPS, check_papers_of, fingerprint_of, name_of, swappable, swapped
 from texts import counted, say
-
-ROOT = pathlib.Path(__file__).resolve().parent.parent.parent
-sys.path.insert(0, str(ROOT / "tools"))
-import plain  # noqa: E402
-
-PASSPHRASE = "TREZOR"
-
-
-def example(name):
-    return [line for line in (ROOT / "examples" / name).read_text().splitlines() if line and not line.startswith("#")]
-
-
-THREE_GROUPS = example("three-groups.txt")
-SECRET = "bb54aac4b89dc868ba37d9cc21b2cece"
-FINGERPRINT = "df41d8fe"
-SOUND_PAPER = example("one-of-one.txt")[0]
-
-
-def fingerprint_of(lines, passphrase):
-    """Returns the fingerprint of the secret of mnemonics, by the plain reading."""
-    return plain.run_recover(passphrase.encode(), "".join(line + "\n" for line in lines).encode(), True)[0].strip()
 
 
 def begin(page, task):
@@ -123,20 +100,21 @@ def make(page, plan_label, wallet, words, passphrase, see, digits=None):
         page.wait(lambda: page.title() != shown, "the end of a paper")
     page.push(say("continue"))
     for number, line in enumerate(papers):
-        name = plain.parse(line.encode())
-        page.wait_title(say("back.title", name=f"{name['group']}.{name['member']}"))
+        page.wait_title(say("back.title", name=name_of(line)))
         if number:
-            page.wait_text(say("back.same", name=typed))
-        typed = f"{name['group']}.{name['member']}"
+            page.wait_text(say("back.same", name=name_of(papers[number - 1])))
         if number == 1:
             page.type(papers[0] + " ")
-            page.wait_text(say("back.other", typed="0.0", name=f"{name['group']}.{name['member']}"))
+            page.wait_text(say("back.other", typed="0.0", name=name_of(line)))
             see("typed another paper back")
         if number == 2:
-            type_wrongly(page, line.split())
+            # As if it was written down wrongly.
+            type_paper(page, swapped(line, swappable(line)))
+            page.wait_text(say("back.refused.13"))
+            page.push(say("entry.empty"))
         type_paper(page, line, is_by_four=number % 2 == 1)
     page.wait_title(say("noted.title" if digits is None else "noted.title.own"))
-    page.wait_text(say("back.same", name=typed))
+    page.wait_text(say("back.same", name=name_of(papers[-1])))
     see("fingerprint")
     if [say(key) in page.text() for key in ("noted.apart", "noted.papers")] != [passphrase is not None, passphrase is None]:
         raise Failed("the page doesn't say whether the fingerprint may stand on the papers, or says it though there is a passphrase")
@@ -176,14 +154,6 @@ def prove(page, passphrase, fingerprint, is_drawn, see):
         raise Failed("a backup that gives the noted secret isn't said to")
 
 
-def type_wrongly(page, words):
-    """Types a paper back with two words that changed places, as if it was written down so."""
-    at = next(it for it in range(2, len(words) - 1) if words[it] != words[it + 1])
-    type_paper(page, " ".join([*words[:at], words[at + 1], words[at], *words[at + 2 :]]))
-    page.wait_text(say("back.refused.13"))
-    page.push(say("entry.empty"))
-
-
 def type_digits(page, digits, again, noted):
     """Chooses an own secret, types its digits twice, and the noted fingerprint, unless it is empty. None stands for none."""
     page.choose(say("secret.own"))
@@ -197,22 +167,13 @@ def type_digits(page, digits, again, noted):
 
 def check_make(page, see):
     """A new secret of 16 bytes in 2of3, one of 32 bytes in groups, and an own secret, each beside the plain reading."""
-    for plan, wallet, words, passphrase, digits in [
-        ("two", "flag", 20, None, None),
-        ("home", "older", 33, "six words and 'signs' ~", None),
-        ("three", "unknown", 20, PASSPHRASE, SECRET),
+    for label, plan, wallet, words, passphrase, digits in [
+        ("two", "2of3", "flag", 20, None, None),
+        ("home", "2/2of3,1of1,1of1", "older", 33, "six words and 'signs' ~", None),
+        ("three", "3of5", "unknown", 20, PASSPHRASE, SECRET),
     ]:
-        papers, fingerprint = make(page, say(f"plan.{plan}"), wallet, words, passphrase, see, digits)
-        wanted = {"two": ["2/3"], "home": ["2/3", "1/1", "1/1"], "three": ["3/5"]}[plan]
-        found = {}
-        for share in (plain.parse(line.encode()) for line in papers):
-            found.setdefault(share["group"], []).append(share)
-            if share["extendable"] != (wallet == "flag") or share["exponent"] != 1:
-                raise Failed(f"a new backup for a wallet ({wallet}) has the flag {share['extendable']} and the exponent {share['exponent']}")
-        if [f"{shares[0]['member_threshold']}/{len(shares)}" for shares in found.values()] != wanted:
-            raise Failed(f"the papers of {plan} aren't those of the plan")
-        if any(len(line.split()) != words for line in papers):
-            raise Failed(f"a paper of {plan} hasn't {words} words")
+        papers, fingerprint = make(page, say(f"plan.{label}"), wallet, words, passphrase, see, digits)
+        check_papers_of(papers, plan, int(wallet == "flag"), 1, words)
         if fingerprint_of(papers, passphrase or "") != fingerprint:
             raise Failed(f"the fingerprint of a new backup is {fingerprint}, and the plain reading differs")
         if digits is not None and fingerprint != FINGERPRINT:
@@ -225,8 +186,7 @@ def check_papers(page, see):
     see("empty entry")
     for number, line in enumerate(THREE_GROUPS):
         type_paper(page, line, is_by_four=number % 2 == 0)
-        share = plain.parse(line.encode())
-        page.wait_text(say("collect.taken", name=f"{share['group']}.{share['member']}"))
+        page.wait_text(say("collect.taken", name=name_of(line)))
         if number == 1:
             see("papers so far")
     page.type(THREE_GROUPS[0] + " ")
@@ -377,8 +337,7 @@ def check_damaged(page, see):
     page.push(say("collect.more"))
     for line in (THREE_GROUPS[0], THREE_GROUPS[3]):
         type_paper(page, line)
-        share = plain.parse(line.encode())
-        page.wait_text(say("collect.taken", name=f"{share['group']}.{share['member']}"))
+        page.wait_text(say("collect.taken", name=name_of(line)))
     page.push(say("collect.end"))
     answer_passphrase(page, PASSPHRASE, FINGERPRINT)
     page.push(say("drill.start"))

@@ -1,18 +1,14 @@
 """Papers of several backups: they are kept apart, the first one isn't trusted, and the owner says which backup is meant."""
-from astray import silent, with_words
+from astray import silent
 from hands import say
-from refusals import LONG, TWO, changed, end_by_keys, started
+from refusals import end_by_keys, started
 from slips import sure
-from tasks import FINGERPRINT, PASSPHRASE, SIGN, SOUND_PAPER, THREE_GROUPS, fingerprint_of, name_of, paper_prompt
+from tasks import SIGN, paper_prompt
 
+from samples import FINGERPRINT, LONG, PASSPHRASE, SOUND_PAPER, THREE_GROUPS, TWO, changed, fingerprint_of, name_of, named, opening, with_words
 from shamir.papers.marks import said_count
 
 CHOOSE = say("backup.choose")
-
-
-def opening(line):
-    """Returns the words with which all papers of a backup begin."""
-    return " ".join(line.split()[:2])
 
 
 def headed(line):
@@ -123,7 +119,7 @@ def check_pasted():
         owner.type("".join(f"{line}\n" for line in lines))
         owner.wait(paper_prompt(6))
         for papers in (THREE_GROUPS[:2], TWO, [SOUND_PAPER]):
-            owner.expect(say("paste.taken.backup", names=", ".join(map(name_of, papers)), begin=opening(papers[0])))
+            owner.expect(say("paste.taken.backup", names=named(papers), begin=opening(papers[0])))
         owner.expect(say("paste.repeated.backup", names=name_of(TWO[0]), begin=opening(TWO[0])))
         owner.expect(say("collect.apart", count=3))
         end_by_keys(owner)

@@ -3,24 +3,13 @@ answer must lead on."""
 import os
 
 from hands import END, Failed, counted, say
-from refusals import NUMBERED, changed, end_by_keys, started, word_prompt
-from slips import papers_of, sure
-from tasks import FINGERPRINT, PASSPHRASE, SECRET, SIGN, SOUND_PAPER, THREE_GROUPS, Owner, fingerprint_of, name_of, paper_prompt
+from refusals import NUMBERED, end_by_keys, started, word_prompt
+from slips import made, sure
+from tasks import SIGN, Owner, paper_prompt
+
+from samples import FINGERPRINT, PASSPHRASE, SECRET, SOUND_PAPER, THREE_GROUPS, changed, fingerprint_of, name_of, named, papers_of, swapped, with_words
 
 PLAN = "2/3of5,1of1"
-
-
-def with_words(line, changes):
-    """Returns a paper with other words at some places, counted from 1."""
-    words = line.split()
-    for place, word in changes.items():
-        words[place - 1] = word
-    return " ".join(words)
-
-
-def swapped(line, place):
-    words = line.split()
-    return with_words(line, {place: words[place], place + 1: words[place - 1]})
 
 
 def silent(owner, text):
@@ -55,8 +44,8 @@ def check_left_out():
             owner.passphrase("", noted)
             owner.wait(say("next.good"))
             owner.expect(say(f"check.done.{title}"))
-            names = [name_of(line) for line in papers if left == 0 or line in papers[:3] + papers[5:] or (left == 1 and line == papers[3])]
-            owner.expect(say("verdict.papers", names=", ".join(names)))
+            tried = [line for line in papers if left == 0 or line in papers[:3] + papers[5:] or (left == 1 and line == papers[3])]
+            owner.expect(say("verdict.papers", names=named(tried)))
             silent(owner, say("check.done.good" if left else "check.done.left_out"))
             silent(owner, "left out" if not left else "The papers that you typed have no others")
             if left:
@@ -229,10 +218,7 @@ def check_without():
         owner.wait(say("new.plan.choose"))
         owner.expect("This isn't a plan. Plans are typed so: 2of3")
         owner.answer(say("new.plan.choose"), "1of1")
-        owner.settle()
-        owner.answer(say("new.secret"), "")
-        owner.answer(say("new.passphrase"), "")
-        owner.answer(f"{say('new.passphrase.none')} {say('screen.yes.back')}", "y")
+        made(owner)
         line = owner.written()[0]
         owner.answer(say("screen.next"), "")
         owner.wait(say("back.ask", name="0.0"))
@@ -341,11 +327,7 @@ def check_unsaid():
     """What a terminal that can't be cleared does, a passphrase that wasn't typed, and a paper of another backup."""
     with Owner("new", "1of1", TERM="dumb") as owner:
         owner.prepare()
-        owner.settle()
-        owner.answer(say("new.secret"), "")
-        owner.answer(say("new.passphrase"), "")
-        owner.answer(f"{say('new.passphrase.none')} {say('screen.yes.back')}", "y")
-        owner.wait(say("new.write.plain"))
+        made(owner)
         if b"cleared then" in owner.raw:
             raise Failed("words are said to be cleared that stay")
         end_by_keys(owner)
@@ -382,12 +364,7 @@ def check_size():
     """A terminal that gets another size shows a paper anew, and any other screen as it was."""
     with Owner("new", "1of1", columns=80, rows=24) as owner:
         owner.prepare()
-        owner.settle()
-        owner.answer(say("new.secret"), "")
-        owner.answer(say("new.passphrase"), "")
-        owner.answer(f"{say('new.passphrase.none')} {say('screen.yes.back')}", "y")
-        owner.wait(say("new.write"))
-        words = owner.words()
+        words = made(owner)
         for columns, rows in [(40, 30), (80, 24)]:
             owner.resize(columns, rows)
             owner.wait(say("new.write"))

@@ -9,9 +9,10 @@ import sys
 import termios
 
 from hands import BINDING, END, PATIENCE, Failed, Interrupted, Session, environment, habits, say
-from tasks import FINGERPRINT, PASSPHRASE, THREE_GROUPS, Owner, check_change, check_check, check_new, check_recover, check_repair, check_replace, check_what, name_of, paper_prompt
+from tasks import Owner, check_change, check_check, check_new, check_recover, check_repair, check_replace, check_what, paper_prompt
 
 import plain
+from samples import FINGERPRINT, PASSPHRASE, THREE_GROUPS, name_of, with_words
 
 AT_ONCE = 4
 # The fields of a paper that is a quorum alone, and takes long.
@@ -343,7 +344,7 @@ def check_written_again():
     """The same for papers that are written again, and for a drill that runs."""
     with Owner("repair") as owner:
         owner.prepare()
-        owner.answer(say("damaged.ask"), THREE_GROUPS[0].replace(THREE_GROUPS[0].split()[9], "?"))
+        owner.answer(say("damaged.ask"), with_words(THREE_GROUPS[0], {10: "?"}))
         owner.answer(say("damaged.menu"), "w")
         owner.answer(f"{say('damaged.sure', name='0.0')} (y/n)", "y")
         owner.wait(say("new.write"))

@@ -1,9 +1,11 @@
 """Papers of which words were found and not read: how they are shown, which of several papers is blamed, and what a drill shows of them."""
-from astray import PLAN, silent, swapped, with_words
+from astray import PLAN, silent
 from hands import say
-from refusals import NUMBERED, changed, end_by_keys, started, word_prompt
-from slips import papers_of, sure
-from tasks import FINGERPRINT, PASSPHRASE, SIGN, SOUND_PAPER, THREE_GROUPS, fingerprint_of, paper_prompt
+from refusals import NUMBERED, end_by_keys, started, word_prompt
+from slips import sure
+from tasks import SIGN, paper_prompt
+
+from samples import FINGERPRINT, PASSPHRASE, SOUND_PAPER, THREE_GROUPS, changed, fingerprint_of, papers_of, swapped, with_words
 
 
 def check_refused_repaired():

@@ -1,9 +1,9 @@
 """What an owner forgets, mistypes or writes down wrongly, and what the program says and keeps then."""
 from hands import Failed, counted, say
 from refusals import NUMBERED, back_prompt, end_by_keys, started
-from tasks import FINGERPRINT, PASSPHRASE, SIGN, THREE_GROUPS, name_of, paper_prompt, short
+from tasks import SIGN, paper_prompt, short
 
-import plain
+from samples import FINGERPRINT, PASSPHRASE, THREE_GROUPS, name_of, papers_of, swappable, swapped, with_words
 from shamir.papers.marks import said_count
 
 
@@ -13,8 +13,7 @@ def sure(name):
 
 def type_damaged(owner, number, line):
     """Types a paper of which one word can't be read, and takes the word that is found."""
-    words = short(line).split()
-    owner.answer(paper_prompt(number), " ".join([*words[:6], "?", *words[7:]]))
+    owner.answer(paper_prompt(number), with_words(short(line), {7: "?"}))
     owner.answer(sure(name_of(line)), "y")
 
 
@@ -45,8 +44,7 @@ def check_damaged():
         owner.expect(say("damaged.anew.one", names=names[4]))
         end_by_keys(owner)
     with started("repair") as owner:
-        words = THREE_GROUPS[0].split()
-        owner.answer(say("damaged.ask"), " ".join(["?" if at == 7 else word for at, word in enumerate(words)]))
+        owner.answer(say("damaged.ask"), with_words(THREE_GROUPS[0], {8: "?"}))
         owner.answer(say("damaged.menu"), "w")
         owner.answer(sure(names[0]), "y")
         owner.answer(say("new.write"), "")
@@ -60,13 +58,6 @@ def check_damaged():
         if "can't be read in full" in owner.emulator.all_seen():
             raise Failed("a paper that was written anew is still to be written anew")
         end_by_keys(owner)
-
-
-def papers_of(plan):
-    """Returns the papers of a backup without a passphrase, by the plain reading."""
-    plan = plain.parse_plan(plan)
-    shares = plain.create(plan, bytes(range(16)), b"", 0, False, bytes(at % 256 for at in range(plain.random_needed(plan, 16))))
-    return [plain.mnemonic(share) for share in shares]
 
 
 def check_number():
@@ -127,20 +118,20 @@ def check_twice():
 
 
 def made(owner):
-    """Makes a backup of one paper, up to its words, and returns them."""
+    """Makes a backup without a passphrase, up to the first paper, and returns its words."""
     owner.settle()
     owner.answer(say("new.secret"), "")
     owner.answer(say("new.passphrase"), "")
     owner.answer(f"{say('new.passphrase.none')} {say('screen.yes.back')}", "y")
-    owner.wait(say("new.write"))
-    return owner.words().split()
+    owner.wait(owner.question("new.write"))
+    return owner.words()
 
 
 def see_again(owner, prompt, words):
     """Lets a paper be shown again from a question, which then comes again."""
     owner.answer(prompt, "")
     owner.wait(say("new.write"))
-    if owner.words().split() != words:
+    if owner.words() != words:
         raise Failed("another paper is shown again")
     owner.answer(say("new.write"), "")
     owner.wait(prompt)
@@ -151,30 +142,29 @@ def check_written_wrongly():
     typed while a paper is shown clear nothing."""
     back, numbered = say("back.ask", name="0.0"), say("entry.numbered.back", sign=SIGN)
     with started("new", "1of1") as owner:
-        words = made(owner)
-        owner.answer(say("new.write"), " ".join(words))
+        line = made(owner)
+        owner.answer(say("new.write"), line)
         owner.wait(say("new.write"))
         owner.expect(say("new.write.alone"))
-        if owner.words().split() != words:
+        if owner.words() != line:
             raise Failed("words that are typed too early clear the paper")
         owner.answer(say("new.write"), "")
         owner.answer(say("screen.next"), "")
-        at = next(it for it in range(2, 19) if words[it] != words[it + 1])
-        wrong = [*words[:at], words[at + 1], words[at], *words[at + 2 :]]
-        owner.answer(back, " ".join(wrong))
+        at, words = swappable(line), line.split()
+        owner.answer(back, swapped(line, at))
         owner.wait(numbered)
         owner.expect(say("back.refused.13"))
-        see_again(owner, numbered, words)
-        owner.answer(numbered, f"{at + 1} {words[at]}")
-        last = back_prompt(at + 2)
+        see_again(owner, numbered, line)
+        owner.answer(numbered, f"{at} {words[at - 1]}")
+        last = back_prompt(at + 1)
         owner.wait(last)
-        owner.expect(say("back.refused.18", first=at + 2))
-        see_again(owner, last, words)
+        owner.expect(say("back.refused.18", first=at + 1))
+        see_again(owner, last, line)
         owner.answer(last, "emrald")
         owner.wait(last)
         owner.expect("isn't in the word list (emerald")
-        see_again(owner, last, words)
-        owner.answer(last, words[at + 1])
+        see_again(owner, last, line)
+        owner.answer(last, words[at])
         owner.wait(say("noted.done"))
         if "type ?" in owner.emulator.all_seen():
             raise Failed("a question mark is offered where none is taken")

@@ -1,10 +1,11 @@
 """What an owner can answer in the tasks 'new', 'replace' and 'repair', the ways back, and answers where the screen is full."""
 from hands import MORE, Failed, say
 from refusals import NUMBERED, back_prompt, end_by_keys, started, word_prompt
-from tasks import FINGERPRINT, PASSPHRASE, SECRET, SIGN, SOUND_PAPER, THREE_GROUPS, Owner, paper_prompt
+from tasks import SIGN, Owner, paper_prompt
 
 import plain
 import shamir
+from samples import FINGERPRINT, PASSPHRASE, SECRET, SOUND_PAPER, THREE_GROUPS, papers_of, with_words
 
 MENU = say("home.choose")
 
@@ -149,7 +150,7 @@ def type_back(owner, papers):
     owner.answer(first, SOUND_PAPER)
     owner.wait(first)
     owner.expect(say("back.foreign", name="0.0", typed="0.0"))
-    owner.answer(first, " ".join(["?", *papers[0].split()[1:]]))
+    owner.answer(first, with_words(papers[0], {1: "?"}))
     owner.answer(back_prompt(1), SIGN)
     owner.expect(say("entry.mark.none", number=1, word="?"))
     owner.answer(first, "")
@@ -238,11 +239,10 @@ def check_repair():
     menu = say("damaged.menu")
     with started("repair") as owner:
         ask = say("damaged.ask")
-        words = SOUND_PAPER.split()
-        owner.answer(ask, " ".join(["? ? ? ?", *words[4:]]))
+        owner.answer(ask, with_words(SOUND_PAPER, {1: "?", 2: "?", 3: "?", 4: "?"}))
         owner.answer(NUMBERED, SIGN)
         owner.expect(say("damaged.refused.19", first=4))
-        owner.answer(ask, " ".join([*words[:2], "acad?", "acax?", *words[4:]]))
+        owner.answer(ask, with_words(SOUND_PAPER, {3: "acad?", 4: "acax?"}))
         owner.answer(word_prompt(4), "?")
         owner.expect(say("entry.mark", number=4, word="acax?"))
         owner.wait(menu)
@@ -255,7 +255,7 @@ def check_repair():
         owner.wait(menu)
         owner.expect(say("damaged.limits", case=say("damaged.limits.3")))
         owner.answer(menu, "t")
-        owner.answer(ask, " ".join([words[0], "?", *words[2:]]))
+        owner.answer(ask, with_words(SOUND_PAPER, {2: "?"}))
         two = say("damaged.menu.two")
         owner.wait(two, menu)
         owner.type("e\n")
@@ -271,13 +271,9 @@ def check_repair():
         owner.end(0)
 
 
-
-
 def check_wrong_plan():
     """What a wrong answer does, if no paper of a group is here: with 1, a paper is written that isn't of the backup, and with more, none."""
-    plan = plain.parse_plan("2/1of1,2of3,1of1")
-    shares = plain.create(plan, bytes(range(16)), b"", 0, False, bytes(range(plain.random_needed(plan, 16))))
-    papers = [plain.mnemonic(share) for share in shares]
+    papers = papers_of("2/1of1,2of3,1of1")
     for needed in ("1", "2"):
         with started("replace") as owner:
             owner.answer(say("replace.how"), "1")

@@ -1,43 +1,17 @@
-"""Each task from its start to its end, as an owner goes through it. The values that must be shown are from outside: from examples/,
-from tools/plain.py, or from ./shamir."""
+"""Each task from its start to its end, as an owner goes through it. The values that must be shown are from outside (tools/samples.py)."""
 import re
 
-from hands import BINDING, ROOT, Failed, Session, counted, say
+from hands import Failed, Session, counted, say
 
-import plain
+from samples import PASSPHRASE, SOUND_PAPER, check_papers_of, check_renewed, fingerprint_of, name_of, names_of, said_kind, secret_of, with_words
 from shamir.papers.screen import BACK
 
-PASSPHRASE = "TREZOR"
-
-
-def example(name):
-    return [line for line in (ROOT / "examples" / name).read_text().splitlines() if line and not line.startswith("#")]
-
-
-THREE_GROUPS = example("three-groups.txt")
-SOUND_PAPER = example("one-of-one.txt")[0]
-SECRET, FINGERPRINT = "bb54aac4b89dc868ba37d9cc21b2cece", "df41d8fe"
 SIGN = "-"
-
-
-def fingerprint_of(lines, passphrase):
-    """Returns the fingerprint of the secret of mnemonics, by the plain reading."""
-    return plain.run_recover(passphrase.encode(), "".join(line + "\n" for line in lines).encode(), True)[0].strip()
-
-
-def secret_of(lines, passphrase):
-    return plain.run_recover(passphrase.encode(), "".join(line + "\n" for line in lines).encode())[0].strip()
 
 
 def short(line):
     """Returns the first four letters of each word."""
     return " ".join(word[:4] for word in line.split())
-
-
-def name_of(line):
-    """Returns the name of a paper, by the plain reading."""
-    fields = plain.run_show(line.encode() + b"\n")[0].split()
-    return f"{fields[fields.index('group') + 1]}.{fields[fields.index('member') + 1]}"
 
 
 class Owner(Session):
@@ -117,6 +91,12 @@ class Owner(Session):
             self.reply(write, "")
         return papers
 
+    def type_back(self, papers):
+        """Types all papers back that were shown."""
+        self.reply(say("screen.next"), "")
+        for line in papers:
+            self.type_paper(say("back.ask", name=name_of(line)), line)
+
     def within(self, most):
         """Checks that no more was to be typed than an owner was promised: five keys a word, and so many answers."""
         if self.answers > most or self.keys > 5 * self.count:
@@ -127,7 +107,7 @@ def paper_prompt(number):
     return say("entry.paper.first") if number == 1 else say("entry.paper", number=number)
 
 
-def make(owner, passphrase, names, secret=None, known=""):
+def make(owner, passphrase, plan, secret=None, known=""):
     """Goes through the task 'new' from the secret on. `known` is the fingerprint that was noted of the owner's own secret. Returns the
     papers and the fingerprint."""
     owner.settle()
@@ -144,11 +124,8 @@ def make(owner, passphrase, names, secret=None, known=""):
     else:
         owner.reply(f"{say('new.passphrase.none')} {say('screen.yes' if secret else 'screen.yes.back')}", "y")
     papers = owner.written()
-    if [name_of(line) for line in papers] != names:
-        raise Failed(f"the papers {names} were expected, and {[name_of(line) for line in papers]} are shown")
-    owner.reply(say("screen.next"), "")
-    for name, line in zip(names, papers):
-        owner.type_paper(say("back.ask", name=name), line)
+    check_papers_of(papers, plan, 1, 1, 33 if secret and len(secret) > 32 else 20)
+    owner.type_back(papers)
     noted = say("noted.done.own" if secret else "noted.done")
     owner.wait(noted)
     owner.expect(say("noted.apart" if passphrase else "noted.papers"))
@@ -170,7 +147,7 @@ def make(owner, passphrase, names, secret=None, known=""):
 def check_new(see):
     with Owner("new", "2/3of5,1of1") as owner:
         owner.prepare()
-        papers, noted = make(owner, PASSPHRASE, ["0.0", "0.1", "0.2", "0.3", "0.4", "1.0"])
+        papers, noted = make(owner, PASSPHRASE, "2/3of5,1of1")
         owner.within(15)
     return papers, noted
 
@@ -231,10 +208,6 @@ def check_replace(papers, noted):
         owner.within(12)
 
 
-def names_of(plan):
-    return [f"{group}.{member}" for group, (_, members) in enumerate(plain.parse_plan(plan)[1]) for member in range(members)]
-
-
 def change(owner, plan, wallet=""):
     """Goes through the task 'change' from the choice of the plan on, until the new papers are typed back. Returns them. `wallet` says which
     wallet will read them, if that is asked."""
@@ -243,13 +216,11 @@ def change(owner, plan, wallet=""):
         owner.reply(say("new.plan.sure"), "u")
     if wallet:
         owner.reply(say("new.wallet"), wallet)
-    papers, names = owner.written(), names_of(plan)
+    papers = owner.written()
     owner.expect(say("change.mark"))
-    if [name_of(line) for line in papers] != names:
-        raise Failed(f"the papers {names} were expected, and {[name_of(line) for line in papers]} are shown")
-    owner.reply(say("screen.next"), "")
-    for name, line in zip(names, papers):
-        owner.type_paper(say("back.ask", name=name), line)
+    if list(map(name_of, papers)) != names_of(plan):
+        raise Failed(f"the papers {names_of(plan)} were expected, and {list(map(name_of, papers))} are shown")
+    owner.type_back(papers)
     return papers
 
 
@@ -270,29 +241,22 @@ def check_change(papers, noted):
         owner.reply(say("screen.end"), "e")
         owner.end(0)
         owner.within(13)
-        expect_same(owner, old, new[:2], [PASSPHRASE, "", "another"])
-        expect_same(owner, old, new[1:], [PASSPHRASE, "", "another"])
+        check_changed(owner, old, new, "2of3", 1)
 
 
-def expect_same(owner, old, new, passphrases):
-    """Checks that old and new papers give the same secrets, that the backups have other identifiers, and that no secret was shown."""
-    for passphrase in passphrases:
-        secret = secret_of(old, passphrase)
-        if secret_of(new, passphrase) != secret:
-            raise Failed(f"with the passphrase {passphrase!r}, the new papers give another secret than the old ones")
-        if secret in "".join(owner.raw.decode().split()):
+def check_changed(owner, old, new, plan, extendable, passphrase=PASSPHRASE):
+    """Checks new papers beside the old ones, and that no secret was shown."""
+    check_renewed(old, new, plan, extendable, passphrase)
+    for tried in (passphrase, "", "another"):
+        if secret_of(old, tried) in "".join(owner.raw.decode().split()):
             raise Failed("the secret is shown")
-    before, after = (plain.parse(lines[0].encode()) for lines in (old, new))
-    if before["id"] == after["id"] or before["exponent"] != after["exponent"]:
-        raise Failed("the new papers have the old identifier, or another exponent")
 
 
 def check_repair(papers, noted):
     words = papers[0].split()
-    marks = [*words[:3], "?", *words[4:9], words[9][:2] + "?", *words[10:]]
     with Owner("repair") as owner:
         owner.prepare()
-        owner.answer(say("damaged.ask"), " ".join(marks))
+        owner.answer(say("damaged.ask"), with_words(papers[0], {4: "?", 10: words[9][:2] + "?"}))
         owner.wait(say("damaged.menu"))
         owner.expect(say("damaged.one", name="0.0"))
         for number in (4, 10):
@@ -310,24 +274,14 @@ def check_repair(papers, noted):
 
 def check_what(papers, noted):
     """One paper says what it is, by the plain reading, and asks for nothing else. The flag and the other papers that it needs are told."""
-    told = [
-        (papers[0], say("what.others.both", papers="2 papers", group=0, groups=counted(1, "whole"))),
-        (papers[5], say("what.others.groups", groups=counted(1, "whole"))),
-        (SOUND_PAPER, say("what.others.none")),
-    ]
     with Owner("what") as owner:
         owner.prepare()
-        for line, others in told:
-            fields = plain.parse(line.encode())
+        for line in (papers[0], papers[5], SOUND_PAPER):
             owner.forget()
             owner.type_paper(say("what.ask"), line)
             owner.wait(say("what.next"))
-            owner.expect(say("what.found", name=name_of(line)))
-            owner.expect(say("what.backup", first=line.split()[0], second=line.split()[1]))
-            owner.expect(others)
-            owner.expect(say("what.flag" if fields["extendable"] else "what.flag.none"))
-            owner.expect(say("what.exponent", exponent=fields["exponent"]))
-            owner.expect(say("what.secret", bytes=len(fields["value"])))
+            for text in (say("what.found", name=name_of(line)), *said_kind(line, say, counted)):
+                owner.expect(text)
             owner.reply(say("what.next"), "b" if line != SOUND_PAPER else "e")
         owner.end(0)
 

@@ -8,9 +8,9 @@ import subprocess
 import tempfile
 
 from hands import PATIENCE, PROGRAM, Failed, environment, habits, say
-from tasks import PASSPHRASE, Owner, change, check_check, check_new, fingerprint_of, make, paper_prompt, secret_of
+from tasks import Owner, change, check_check, check_new, make, paper_prompt
 
-import plain
+from samples import changed, fingerprint_of, secret_of
 
 # A passphrase that nothing else has.
 OWN_PASSPHRASE = "7mQ zebra-crossing 4tV"
@@ -101,7 +101,7 @@ def check_memory():
         owner.prepare()
         habits.at_question = at_question
         try:
-            papers, noted = make(owner, OWN_PASSPHRASE, ["0.0", "0.1", "0.2"])
+            papers, noted = make(owner, OWN_PASSPHRASE, "2of3")
         finally:
             del habits.at_question
     if not seen.get("typed"):
@@ -119,7 +119,7 @@ def check_memory():
 
 def check_memory_of_change(papers, noted, secret):
     """At the last question of 'change', old and new papers are gone, and so is the secret, which papers without the flag are made of."""
-    flagless = [plain.mnemonic({**plain.parse(line.encode()), "extendable": 0}) for line in papers]
+    flagless = [changed(line, extendable=0) for line in papers]
     for old, fingerprint in [(papers, noted), (flagless, fingerprint_of(flagless, OWN_PASSPHRASE))]:
         with Owner("change") as owner:
             owner.prepare()
