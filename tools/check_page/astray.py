@@ -1,9 +1,8 @@
 """Where an owner who reads only the screen could go astray: papers that don't work, results that say too much, and what may be destroyed."""
 from browsers import Failed
 from looks import check_screen
-from refusals import paste
 from samples import FINGERPRINT, PASSPHRASE, SOUND_PAPER, THREE_GROUPS, TWO, changed, fingerprint_of, name_of, named, opening, papers_of, swapped, with_words
-from tasks import answer_passphrase, begin, end, found_words, read_paper, type_damaged, type_paper
+from tasks import answer_passphrase, begin, begin_replace, clear, drill, end, found_words, paste, read_paper, take, take_all, type_damaged, type_paper
 from texts import counted, say
 
 
@@ -11,18 +10,6 @@ def silent(page, text):
     """Checks that a text isn't on the screen."""
     if text in page.text():
         raise Failed(f"this is shown, and shouldn't be: {text!r}")
-
-
-def take(page, lines):
-    """Pastes papers that are taken."""
-    for line in lines:
-        paste(page, line)
-        page.wait_text(say("collect.taken", name=name_of(line)))
-
-
-def clear(page):
-    page.push(say("clear"))
-    page.wait_title(say("home.title"))
 
 
 def leave_out(page, papers):
@@ -46,8 +33,7 @@ def check_left_out(page, see):
     take(page, [*papers[:3], papers[5]])
     for left, more in [(2, [papers[3]]), (1, [papers[4]]), (0, [])]:
         page.push(say("collect.end"))
-        answer_passphrase(page, None, noted)
-        page.push(say("drill.start"))
+        drill(page, None, noted)
         page.wait_title(say("check.done.left_out" if left else "check.done.good"))
         tried = [line for line in papers if line in papers[:3] + papers[5:] or line == papers[3] and left < 2 or not left]
         page.wait_text(say("verdict.papers", names=named(tried)))
@@ -117,10 +103,8 @@ def check_repaired(page, see):
     silent(page, "is of another backup, or forged")
     see("a repaired paper is blamed")
     page.push(say("entry.empty"))
-    take(page, THREE_GROUPS[1:4])
-    page.push(say("collect.end"))
-    answer_passphrase(page, PASSPHRASE, FINGERPRINT)
-    page.push(say("drill.start"))
+    take_all(page, THREE_GROUPS[1:4])
+    drill(page, PASSPHRASE, FINGERPRINT)
     page.wait_title(say("check.done.some"))
     page.wait_text(say("damaged.keep"))
     page.wait_text(say("damaged.suspect.one", names="0.0"))
@@ -145,11 +129,9 @@ def check_untried(page, see):
         (papers[3], papers[4:5], noted, "check.done.good", [right], [keep]),
     ]:
         repair(page, line)
-        take(page, others)
-        page.push(say("collect.end"))
+        take_all(page, others)
         page.wait_title(say("damaged.passphrase"))
-        answer_passphrase(page, None, fingerprint)
-        page.push(say("drill.start"))
+        drill(page, None, fingerprint)
         page.wait_title(say(title))
         for text in wanted:
             page.wait_text(text)
@@ -162,16 +144,13 @@ def check_untried(page, see):
 def check_lost(page, see):
     """The only paper of a group without which nothing is recovered: nothing else gives it. No more is said to be there than is known."""
     papers = papers_of("2/3of5,1of1")
-    begin(page, "replace")
-    page.choose(say("replace.other"))
-    page.push(say("continue"))
+    begin_replace(page, "other")
     page.wait_text("The lost paper doesn't work together with the new ones.")
     page.wait_text("or if you don't have enough of them to recover it. Then make a new wallet while the old one still works")
     page.push(say("back"))
     page.choose(say("replace.destroyed"))
     page.push(say("continue"))
-    take(page, papers[:4])
-    page.push(say("collect.end"))
+    take_all(page, papers[:4])
     page.choose(say("which.paper", name="1.0"))
     page.fill(say("which.needed"), "1", "spinbutton")
     page.push(say("which.write"))
@@ -187,19 +166,14 @@ def check_lost(page, see):
     page.push(say("replace.end"))
     page.wait_title(say("replace.done"))
     end(page)
-    begin(page, "replace")
-    page.choose(say("replace.destroyed"))
-    page.push(say("continue"))
-    take(page, papers_of("2of3")[:2])
-    page.push(say("collect.end"))
+    begin_replace(page)
+    take_all(page, papers_of("2of3")[:2])
     page.choose(say("which.paper", name="0.2"))
     page.push(say("which.write"))
     page.wait_title(say("paper.title", name="0.2"))
     page.wait_text(say("takes.papers", needed=2))
     silent(page, "of the 16 papers")
-    page.push(say("clear"))
-    page.push(say("clear.yes"))
-    page.wait_title(say("home.title"))
+    clear(page, is_asked=True)
 
 
 def check_without(page, see):
@@ -209,8 +183,7 @@ def check_without(page, see):
         ("recover", "recover.done.other", "the backup most likely has a passphrase: try again, and type it."),
     ]:
         begin(page, task)
-        take(page, THREE_GROUPS[:4])
-        page.push(say("collect.end"))
+        take_all(page, THREE_GROUPS[:4])
         answer_passphrase(page, None, FINGERPRINT)
         if task == "check":
             page.push(say("drill.start"))
@@ -251,8 +224,7 @@ def check_apart(page, see):
     page.push(say("collect.undo", name="0.0"))
     page.wait_text(say("collect.undone", name="0.0"))
     page.push(say("collect.end.of", begin=own))
-    answer_passphrase(page, PASSPHRASE, FINGERPRINT)
-    page.push(say("drill.start"))
+    drill(page, PASSPHRASE, FINGERPRINT)
     page.wait_title(say("check.done.left_out"))
     page.wait_text(say("verdict.all.noted", quorums=counted(3, "quorum"), fingerprint=FINGERPRINT))
     for text in (say("left.backup.one", names="0.0", begin=other), say("left.backup.one", names=name_of(TWO[0]), begin=third), say("left.sound.one", names="2.0")):
@@ -325,8 +297,7 @@ def check_several_repaired(page, see):
         page.push(say("collect.drop.of", name="0.0", begin=opening(SOUND_PAPER)))
         see("several repaired papers")
         page.push(say("collect.end"))
-        answer_passphrase(page, None, noted)
-        page.push(say("drill.start"))
+        drill(page, None, noted)
         page.wait_title(say(title))
         for text in texts:
             page.wait_text(text)

@@ -5,9 +5,9 @@ What old and new papers give is computed by the plain reading.
 from browsers import Failed
 from choices import DRAWN, FOREKNOWN, PHONE, check_green
 from long_drill import check_bar
-from refusals import paste, said
+from refusals import said
 from samples import FINGERPRINT, PASSPHRASE, SECRET, THREE_GROUPS, changed, check_renewed, fingerprint_of, name_of, papers_of
-from tasks import answer_passphrase, begin, end, read_paper
+from tasks import answer_passphrase, begin, begin_replace, clear, drill, end, paste, read_paper, take_all
 from texts import counted, say
 
 import plain
@@ -37,20 +37,6 @@ def pictures(page, see, what):
         if wide > 0:
             raise Failed(f"{what}: at {width} pixels the screen is {wide} pixels too wide")
         see(f"change {what} {width}")
-
-
-def take(page, lines):
-    for line in lines:
-        paste(page, line)
-        page.wait_text(say("collect.taken", name=name_of(line)))
-    page.push(say("collect.end"))
-
-
-def type_again(page, label, text=""):
-    page.go_to("textbox", say(label))
-    page.evaluate("document.activeElement.select()")
-    page.press("Backspace")
-    page.type(text)
 
 
 def write(page, see, old, is_checked=False):
@@ -84,7 +70,7 @@ def write(page, see, old, is_checked=False):
 def start(page, lines):
     page.evaluate(WATCH % SECRET)
     begin(page, "change")
-    take(page, lines)
+    take_all(page, lines)
     page.wait_title(say("change.plan"))
 
 
@@ -111,15 +97,14 @@ def check_extendable(page, see):
     begin(page, "change")
     page.wait_text(say("step.most", at=1, count=8))
     pictures(page, see, "old papers")
-    take(page, old[:1])
+    take_all(page, old[:1])
     page.wait_title(say("recover.few"))
     page.push(say("collect.more"))
-    take(page, [old[1], old[3]])
+    take_all(page, [old[1], old[3]])
     page.wait_title(say("change.plan"))
     page.push(say("back"))
     page.wait_text(say("collect.row", name="1.0", words=20))
-    page.push(say("clear"))
-    page.wait_title(say("home.title"))
+    clear(page)
     start(page, [old[0], old[1], old[3]])
     page.choose(say("plan.three"))
     pictures(page, see, "the new plan")
@@ -129,14 +114,13 @@ def check_extendable(page, see):
     # No wallet and no passphrase was asked for.
     page.wait_text(say("step", at=5, count=6))
     pictures(page, see, "what was noted")
-    answer_passphrase(page, "TREZOr", FINGERPRINT)
-    page.push(say("drill.start"))
+    drill(page, "TREZOr", FINGERPRINT)
     page.wait_text(say("verdict.other", quorums=counted(1, "quorum"), noted=FINGERPRINT))
     pictures(page, see, "another fingerprint")
     answer_passphrase(page, PASSPHRASE, None)
     # The fingerprint that was typed before stands there, so none and one are said at once.
     page.wait_text(say("noted.both"))
-    type_again(page, "noted.label", FINGERPRINT)
+    page.retype(say("noted.label"), FINGERPRINT)
     page.push(say("continue"))
     page.push(say("drill.start"))
     verdict = say("verdict.all.noted.new", quorums=counted(10, "quorum"), fingerprint=FINGERPRINT)
@@ -155,8 +139,7 @@ def check_bare(page, see):
         check_renewed([old[3], old[4]], new, "2of3", 1)
         if passphrase is None:
             # What was typed before isn't taken.
-            answer_passphrase(page, "TREZOr", FINGERPRINT)
-            page.push(say("drill.start"))
+            drill(page, "TREZOr", FINGERPRINT)
             page.wait_text(say("verdict.other", quorums=counted(1, "quorum"), noted=FINGERPRINT))
             page.push(say("change.bare"))
         else:
@@ -195,8 +178,7 @@ def check_renewed(page, see):
         new = write(page, see, old)
         check_renewed(old, new, "2of3", int(wallet == "flag"))
         if not noted:
-            answer_passphrase(page, "TREZOr", None)
-            page.push(say("drill.start"))
+            drill(page, "TREZOr", None)
             page.wait_title(say("change.unproved"))
             page.wait_text(say("change.other"))
             check_green(page, [])
@@ -222,14 +204,12 @@ def check_refused(page, see):
     """Papers that don't belong together give no new ones, and the owner goes back to them. From 'Replace', a lost paper leads here."""
     old = old_papers()
     wrong = changed(old[1], value=bytes(16))
-    begin(page, "replace")
-    page.choose(say("replace.other"))
-    page.push(say("continue"))
+    begin_replace(page, "other")
     page.wait_title(say("replace.new.title"))
     page.wait_text(say("replace.new.change"))
     pictures(page, see, "a lost paper")
     page.push(say("replace.new.change.go"))
-    take(page, [old[0], wrong, old[3]])
+    take_all(page, [old[0], wrong, old[3]])
     page.push(say("continue"))
     page.wait_title(say("change.failed"))
     page.wait_text(said(51, first=0))
@@ -237,11 +217,10 @@ def check_refused(page, see):
     page.push(say("collect.back"))
     page.wait_title(say("change.title"))
     page.push(say("collect.drop", name="0.1"))
-    take(page, [old[1]])
+    take_all(page, [old[1]])
     page.push(say("continue"))
     page.wait_title(say("change.forms"))
-    page.push(say("clear"))
-    page.wait_title(say("home.title"))
+    clear(page)
 
 
 def check_wrong(page, see):
@@ -268,7 +247,7 @@ def check_wrong(page, see):
 def check_stop(page, see):
     """What takes long tells how far it is, and stops. The papers stay."""
     begin(page, "change")
-    take(page, [changed(line, exponent=14) for line in THREE_GROUPS[3:]])
+    take_all(page, [changed(line, exponent=14) for line in THREE_GROUPS[3:]])
     page.push(say("continue"))
     page.choose(say("wallet.flag"))
     page.push(say("continue"))
@@ -282,10 +261,9 @@ def check_stop(page, see):
         page.push(say("back"))
         page.wait_title(say(title))
     page.wait_text(say("collect.row", name="2.0", words=20))
-    page.push(say("clear"))
-    page.wait_title(say("home.title"))
+    clear(page)
     begin(page, "change")
-    take(page, old_papers(14)[3:])
+    take_all(page, old_papers(14)[3:])
     page.push(say("continue"))
     write(page, see, old_papers(14))
     page.push(say("change.bare"))
@@ -295,9 +273,7 @@ def check_stop(page, see):
     page.push(say("stop"))
     page.wait_title(say("change.noted"))
     page.wait_text(say("change.stopped"))
-    page.push(say("clear"))
-    page.push(say("clear.yes"))
-    page.wait_title(say("home.title"))
+    clear(page, is_asked=True)
 
 
 def check_identifier(page, _):
@@ -317,9 +293,7 @@ def check_identifier(page, _):
         check_renewed(lines, new, "2of3", share["extendable"])
         if plain.parse(new[0].encode())["id"] != int.from_bytes(DRAWN[:2], "big"):
             raise Failed("the random bytes that were to be drawn weren't")
-        page.push(say("clear"))
-        page.push(say("clear.yes"))
-        page.wait_title(say("home.title"))
+        clear(page, is_asked=True)
         page.call("browsingContext.reload", wait="complete")
         page.wait_title(say("home.title"))
 

@@ -3,9 +3,9 @@ what one paper says."""
 import json
 
 from browsers import Failed
-from refusals import paste, said
+from refusals import said
 from samples import BAD_CHECKSUM, BIP39, FINGERPRINT, PASSPHRASE, ROOT, SECRET, SOUND_PAPER, THREE_GROUPS, TWO, changed, fingerprint_of, name_of, said_kind
-from tasks import answer_passphrase, begin, choose_wallet, create, end, read_paper, type_digits, type_paper
+from tasks import answer_passphrase, begin, choose_wallet, clear, create, drill, end, paste, read_paper, type_digits, type_paper
 from texts import counted, say
 
 import plain
@@ -65,7 +65,7 @@ def check_wallet(page, see):
         page.push(say("back"))
         page.wait_title(say("make.wallet"))
         for chosen in (say(f"wallet.{wallet}"), say("entry.words", count=33)):
-            if not page.is_true("(it) => it.getAttribute('aria-checked') === 'true'", page.node("radio", chosen)):
+            if not page.is_chosen(chosen):
                 raise Failed(f"on the way back, another wallet or number of words is chosen than {chosen!r}")
         page.push(say("back"))
         page.wait_title(say("make.plan"))
@@ -104,9 +104,7 @@ def check_dice(page, see):
         page.tick(say("passphrase.none"))
         page.evaluate("document.querySelector('details').open = true; null")
         for typed, text in [(throws[:49], say("more.dice.few", count=49, least=count // 50 * 50)), ("7", say("more.dice.wrong")), (throws, "")]:
-            page.go_to("textbox", say("more.dice"))
-            page.evaluate("document.activeElement.select()")
-            page.type(typed)
+            page.retype(say("more.dice"), typed)
             if text:
                 page.push(say("make.create"))
                 page.wait_text(text)
@@ -121,9 +119,7 @@ def check_dice(page, see):
         wanted = bytes(a ^ b for a, b in zip(mixed.to_bytes(len(share["value"]), "big"), DRAWN))
         if plain.decrypt(share["value"], b"", share) != wanted:
             raise Failed(f"{count} throws and the random bytes give another secret than their xor")
-        page.push(say("clear"))
-        page.push(say("clear.yes"))
-        page.wait_title(say("home.title"))
+        clear(page, is_asked=True)
     page.call("browsingContext.reload", wait="complete")
     page.wait_title(say("home.title"))
 
@@ -155,8 +151,7 @@ def check_dangers(page, see):
     page.wait(lambda: not page.evaluate("document.querySelector('main .bad').checkVisibility()"), "the end of the danger")
     page.push(say("continue"))
     page.wait_title(say("make.wallet"))
-    page.push(say("clear"))
-    page.wait_title(say("home.title"))
+    clear(page)
 
 
 def make_own(page):
@@ -202,24 +197,17 @@ def check_notes(page, see):
     if not page.is_true(f"(it) => it.value === '{PASSPHRASE}'", page.node("textbox", say("passphrase.label"))):
         raise Failed("a mistyped fingerprint empties the passphrase")
     for label, text in [("passphrase.label", ""), ("noted.label", FINGERPRINT)]:
-        page.go_to("textbox", say(label))
-        page.evaluate("document.activeElement.select()")
-        page.press("Backspace")
-        page.type(text)
+        page.retype(say(label), text)
     for passphrase, text in [(None, "proof.passphrase.none"), ("TREZOr", "proof.passphrase")]:
-        answer_passphrase(page, passphrase, FINGERPRINT)
-        page.push(say("drill.start"))
+        drill(page, passphrase, FINGERPRINT)
         page.wait_title(say("make.failed.title"))
         page.wait_text(say(text))
         check_green(page, [])
         see(f"what was noted is wrong {passphrase}")
         page.push(say("proof.again"))
         page.wait_title(say("proof.title"))
-    page.go_to("textbox", say("noted.label"))
-    page.evaluate("document.activeElement.select()")
-    page.press("Backspace")
-    answer_passphrase(page, PASSPHRASE, None)
-    page.push(say("drill.start"))
+    page.retype(say("noted.label"), "")
+    drill(page, PASSPHRASE, None)
     page.wait_text(say("verdict.all.own", quorums=counted(3, "quorum"), fingerprint=FINGERPRINT))
     page.wait_title(say("make.done"))
     page.wait_text(say("make.restore"))
@@ -242,8 +230,7 @@ def check_looks_of_results(page, see):
     page.push(say("collect.end"))
     for fingerprint, which in [(None, "same"), (noted, "noted")]:
         said = say(f"verdict.all.{which}", quorums=counted(1, "quorum"), fingerprint=noted)
-        answer_passphrase(page, PASSPHRASE, fingerprint)
-        page.push(say("drill.start"))
+        drill(page, PASSPHRASE, fingerprint)
         page.wait_text(said)
         page.wait_title(say("check.done.good" if fingerprint else "check.done.same"))
         check_green(page, [said] if fingerprint else [])
@@ -296,8 +283,7 @@ def check_what(page, see):
     if page.evaluate("[...document.querySelectorAll('.offers')].some((it) => it.checkVisibility())"):
         raise Failed("words of SLIP-0039 are offered in place of those of BIP-39")
     see("a phrase of BIP-39")
-    page.push(say("clear"))
-    page.wait_title(say("home.title"))
+    clear(page)
 
 
 # Returns how many rows and columns things have, in the order down the columns, or why there is no such order.
@@ -345,8 +331,7 @@ def check_phone(page, see):
         if page.evaluate(CUT):
             raise Failed(f"on a screen that got narrower, texts don't fit into their boxes: {page.evaluate(CUT)}")
     see("phone wallet")
-    page.push(say("clear"))
-    page.wait_title(say("home.title"))
+    clear(page)
     begin(page, "check")
     if not page.evaluate(ONE_LINE):
         raise Failed("the numbers of words don't stand in one line")
@@ -370,8 +355,7 @@ def check_phone(page, see):
             page.press("Enter")
             page.wait_text(say("entry.nothing"))
             page.wait(lambda: page.evaluate(IN_SIGHT % "document.querySelector('.answer')"), "the answer in sight")
-    page.push(say("clear"))
-    page.wait_title(say("home.title"))
+    clear(page)
     begin(page, "make")
     choose_wallet(page)
     page.tick(say("passphrase.none"))
@@ -383,9 +367,7 @@ def check_phone(page, see):
     beyond = page.evaluate("document.documentElement.scrollHeight - innerHeight")
     if beyond > 0:
         raise Failed(f"the screen of a paper is {beyond} pixels higher than a phone, so it scrolls a little")
-    page.push(say("clear"))
-    page.push(say("clear.yes"))
-    page.wait_title(say("home.title"))
+    clear(page, is_asked=True)
     page.size(1200, 900)
 
 
@@ -404,8 +386,7 @@ def check_help(page, see):
     page.wait_text(said(18, first=20))
     if page.evaluate("document.querySelector('.answer').textContent") != said(18, first=20):
         raise Failed("a refusal has more than its sentence")
-    page.push(say("clear"))
-    page.wait_title(say("home.title"))
+    clear(page)
 
 
 CHECKS = [check_help, check_phone, check_wallet, check_dice, check_dangers, check_notes, check_looks_of_results, check_what]

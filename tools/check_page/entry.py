@@ -1,8 +1,8 @@
 """The entry of a paper: keys that end a word, words that were not read, and what can be read of a damaged paper."""
 from browsers import Failed
-from refusals import paste, said
+from refusals import said
 from samples import BAD_CHECKSUM, BAD_PADDING, EXCHANGED, SOUND_PAPER, TWO, changed, name_of, with_words
-from tasks import begin, end, found_words, type_damaged
+from tasks import begin, clear, end, found_words, paste, type_damaged
 from texts import counted, say
 
 
@@ -53,8 +53,7 @@ def check_keys(page, _):
             page.wait_text(say("collect.taken", name="0.0"))
             page.push(say("collect.drop", name="0.0"))
             page.wait_text(say("collect.dropped", name="0.0"))
-    page.push(say("clear"))
-    page.wait_title(say("home.title"))
+    clear(page)
 
 
 # Papers whose words run together if only four letters of each are typed, or only as many as make a word.
@@ -74,8 +73,7 @@ def check_habits(page, _):
             begin(page, "check")
             page.type("".join(short(word) for word in line.split()))
             page.wait(lambda: say("collect.taken", name=name_of(line)) in page.text(), f"the paper {line!r}, of which {what} of each word were typed")
-            page.push(say("clear"))
-            page.wait_title(say("home.title"))
+            clear(page)
 
 
 def check_mistyped(page, see):
@@ -97,8 +95,7 @@ def check_mistyped(page, see):
         page.wait_text(say("collect.taken", name="0.0"))
         page.push(say("collect.drop", name="0.0"))
         page.wait_text(say("collect.dropped", name="0.0"))
-    page.push(say("clear"))
-    page.wait_title(say("home.title"))
+    clear(page)
 
 
 # Three letters make each of these words, and four are typed. The fourth letter of 'academic', with those of the last word, begins 'damage'.
@@ -117,8 +114,7 @@ def check_guessed(page, see):
     if page.evaluate("[...document.querySelectorAll('.word')].map((it, at) => it.classList.contains('doubt') ? at + 1 : '').join('')") != "10":
         raise Failed("the word that habit decided isn't marked, or another word is")
     see("a word that habit decided")
-    page.push(say("clear"))
-    page.wait_title(say("home.title"))
+    clear(page)
 
 
 LEAVING = """
@@ -234,8 +230,7 @@ def check_damaged(page, see):
     see("a word that isn't complete")
     page.push(say("damaged.offer.rest", mark="le?"))
     page.wait(lambda: found_words(page) == listed([7]), "the word that was left open in part")
-    page.push(say("clear"))
-    page.wait_title(say("home.title"))
+    clear(page)
 
 
 # Whether the number of words is asked for, and how many fields are shown.
@@ -265,8 +260,7 @@ def check_known_count(page, see):
             raise Failed("the number of words is asked for though nothing is typed of a paper that is typed back")
     paste(page, SOUND_PAPER)
     page.wait_title(say("damaged.check.title"))
-    page.push(say("clear"))
-    page.wait_title(say("home.title"))
+    clear(page)
 
 
 CHECKS = [check_unread, check_keys, check_habits, check_guessed, check_mistyped, check_kept, check_damaged, check_known_count]

@@ -1,6 +1,6 @@
 """The blank forms: which are printed, and what the engine refuses."""
 from browsers import Failed
-from tasks import begin, choose_wallet, read_paper
+from tasks import begin, choose_wallet, clear, read_paper
 from texts import say
 
 # What each form has besides its name, its plan and its lines for words.
@@ -90,9 +90,7 @@ def check_offered(page, see):
             raise Failed("forms stay beside the words of a paper")
         see("a paper with a label")
         page.push(say("paper.written"))
-    page.push(say("clear"))
-    page.push(say("clear.yes"))
-    page.wait_title(say("home.title"))
+    clear(page, is_asked=True)
 
 
 def check_single(page, _):

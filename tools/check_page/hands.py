@@ -126,6 +126,18 @@ class Page:
         self.go_to(role, name)
         self.type(text)
 
+    def retype(self, name, text, role="textbox"):
+        """Types a text in place of what a field has."""
+        self.go_to(role, name)
+        self.evaluate("document.activeElement.select()")
+        if text:
+            self.type(text)
+        else:
+            self.press("Backspace")
+
+    def is_chosen(self, name):
+        return self.is_true("(it) => it.getAttribute('aria-checked') === 'true'", self.node("radio", name))
+
     # ---- what is to be seen
 
     def text(self):

@@ -3,9 +3,8 @@ import time
 
 from browsers import Failed
 from looks import words_shown
-from refusals import paste
 from samples import SOUND_PAPER, changed
-from tasks import answer_passphrase, begin, choose_wallet, create, end
+from tasks import answer_passphrase, begin, choose_wallet, clear, create, end, take_all
 from texts import say
 
 # Lets what the page starts, or what it asks the worker for, come not at all, or only at `UNDO`, which ends this.
@@ -30,11 +29,6 @@ ASK = """
 null
 """
 UNDO = "window.undo(); null"
-
-
-def clear(page):
-    page.push(say("clear"))
-    page.wait_title(say("home.title"))
 
 
 def check_launch(page, see):
@@ -93,9 +87,7 @@ def check_late_words(page):
     page.wait(lambda: words_shown(page) == 20, "the words again")
     if page.evaluate("document.activeElement === document.body"):
         raise Failed("the button that shows the words takes the focus with it")
-    page.push(say("clear"))
-    page.push(say("clear.yes"))
-    page.wait_title(say("home.title"))
+    clear(page, is_asked=True)
 
 
 def begin_long(page):
@@ -107,9 +99,7 @@ def begin_long(page):
 def check_stop(page, see):
     """'Stop' works before the page has its copy of what the worker holds, and if no other worker starts."""
     begin(page, "recover")
-    paste(page, changed(SOUND_PAPER, exponent=14))
-    page.wait_text(say("collect.taken", name="0.0"))
-    page.push(say("collect.end"))
+    take_all(page, [changed(SOUND_PAPER, exponent=14)])
     page.evaluate(ASK % "keep")
     begin_long(page)
     page.push(say("stop"))

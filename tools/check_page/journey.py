@@ -3,9 +3,8 @@ import itertools
 import json
 
 from browsers import Failed
-from refusals import paste
-from samples import FINGERPRINT, PASSPHRASE, SOUND_PAPER, THREE_GROUPS, name_of
-from tasks import answer_passphrase, begin, choose_wallet, create, end, read_paper
+from samples import FINGERPRINT, PASSPHRASE, SOUND_PAPER, THREE_GROUPS
+from tasks import answer_passphrase, begin, choose_wallet, clear, create, drill, end, paste, read_paper, take_all
 from texts import say
 
 # Notes the title, the step and the buttons to press next of each screen, as it comes and as it changes.
@@ -60,16 +59,9 @@ def check_steps(page, see):
             raise Failed("a step is shown without a task")
 
 
-def type_all(page, lines):
-    for line in lines:
-        paste(page, line)
-        page.wait_text(say("collect.taken", name=name_of(line)))
-    page.push(say("collect.end"))
-
-
-def drill(page, title):
+def check_drill(page, title):
     """Drills with what was noted. The result is said once."""
-    page.push(say("drill.start"))
+    drill(page, PASSPHRASE, FINGERPRINT)
     page.wait_title(say(title))
     if page.text().count(FINGERPRINT) != 1:
         raise Failed(f"the result of a drill is said {page.text().count(FINGERPRINT)} times")
@@ -92,22 +84,20 @@ def make(page, see):
     page.wait_title(say("noted.title"))
     noted = page.evaluate("document.querySelector('.fingerprint').textContent")
     page.push(say("noted.done"))
-    answer_passphrase(page, None, noted)
-    page.push(say("drill.start"))
+    drill(page, None, noted)
     page.wait_title(say("make.done"))
     page.wait_text("Note the plan too: any 2 of the 3 papers recover the secret (2of3).")
     see("journey made")
 
 
 def check(page, see):
-    type_all(page, THREE_GROUPS)
-    answer_passphrase(page, PASSPHRASE, FINGERPRINT)
-    drill(page, "check.done.good")
+    take_all(page, THREE_GROUPS)
+    check_drill(page, "check.done.good")
     see("journey checked")
 
 
 def recover(page, _):
-    type_all(page, THREE_GROUPS)
+    take_all(page, THREE_GROUPS)
     answer_passphrase(page, PASSPHRASE, FINGERPRINT)
     page.wait_title(say("recover.done.same"))
 
@@ -115,7 +105,7 @@ def recover(page, _):
 def replace(page, see):
     page.choose(say("replace.destroyed"))
     page.push(say("continue"))
-    type_all(page, [THREE_GROUPS[0], *THREE_GROUPS[2:]])
+    take_all(page, [THREE_GROUPS[0], *THREE_GROUPS[2:]])
     page.choose(say("which.paper", name="0.1"))
     page.push(say("which.write"))
     page.wait_title(say("paper.title", name="0.1"))
@@ -127,13 +117,12 @@ def replace(page, see):
     see("journey which paper")
     page.push(say("replace.end"))
     page.wait_title(say("replace.passphrase"))
-    answer_passphrase(page, PASSPHRASE, FINGERPRINT)
-    drill(page, "check.done.written")
+    check_drill(page, "check.done.written")
     page.wait_text(say("replace.right.one", names="0.1"))
 
 
 def change(page, see):
-    type_all(page, THREE_GROUPS)
+    take_all(page, THREE_GROUPS)
     page.push(say("continue"))
     page.choose(say("wallet.flag"))
     page.push(say("continue"))
@@ -148,8 +137,7 @@ def change(page, see):
     for number, line in enumerate(papers, 1):
         page.wait_text(say("paper.place", number=number, count=3))
         paste(page, line)
-    answer_passphrase(page, PASSPHRASE, FINGERPRINT)
-    drill(page, "change.done")
+    check_drill(page, "change.done")
     see("journey changed")
 
 
@@ -162,8 +150,7 @@ def repair(page, see):
     paste(page, SOUND_PAPER)
     page.wait_title(say("damaged.check.title"))
     page.push(say("collect.end"))
-    answer_passphrase(page, PASSPHRASE, None)
-    page.push(say("drill.start"))
+    drill(page, PASSPHRASE, None)
     page.wait_title(say("check.done.same"))
     see("journey repaired")
 
@@ -224,16 +211,14 @@ def check_plans(page, see):
         page.push(button)
         check_picture(page, button, plan)
     see("what a plan of one's own survives")
-    page.push(say("clear"))
-    page.wait_title(say("home.title"))
+    clear(page)
     begin(page, "check")
     for line, cards in [(THREE_GROUPS[0], "0.0 missing"), (THREE_GROUPS[1], "0.0 0.1 enough"), (THREE_GROUPS[3], "0.0 0.1 enough 1.0 enough")]:
         paste(page, line)
         told = "[...document.querySelectorAll('.picture .card, .picture .enough')].map((it) => it.textContent).join(' ')"
         page.wait(lambda: page.evaluate(told) == cards, f"the cards {cards!r}, and not {page.evaluate(told)!r},")
     see("cards of papers")
-    page.push(say("clear"))
-    page.wait_title(say("home.title"))
+    clear(page)
 
 
 CHECKS = [check_steps, check_plans]

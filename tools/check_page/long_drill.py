@@ -3,9 +3,8 @@ import math
 
 from browsers import Failed
 from choices import check_green
-from refusals import paste
-from samples import SOUND_PAPER, changed, fingerprint_of, name_of, papers_of
-from tasks import answer_passphrase, begin, choose_wallet, end
+from samples import SOUND_PAPER, changed, fingerprint_of, papers_of
+from tasks import answer_passphrase, begin, choose_wallet, clear, end, take_all
 from texts import say
 
 # A plan with more quorums than a drill tries: three groups of eight papers, four of each needed.
@@ -17,10 +16,7 @@ def check_big(page, see):
     """The first quorums are tried, and one with each paper. The page doesn't say that all were."""
     lines = papers_of(f"{GROUPS}/" + ",".join([f"{NEEDED}of{MEMBERS}"] * GROUPS))
     begin(page, "check")
-    for line in lines:
-        paste(page, line)
-        page.wait_text(say("collect.taken", name=name_of(line)))
-    page.push(say("collect.end"))
+    take_all(page, lines)
     fingerprint = fingerprint_of([line for group in range(GROUPS) for line in lines[group * MEMBERS : group * MEMBERS + NEEDED]], "")
     answer_passphrase(page, None, fingerprint)
     total = f"{math.comb(MEMBERS, NEEDED) ** GROUPS:,}"
@@ -58,9 +54,7 @@ def check_bar(page):
 def check_stop(page, see):
     """A recovery with a high exponent says how long it takes, and stops. The papers stay."""
     begin(page, "recover")
-    paste(page, changed(SOUND_PAPER, exponent=14))
-    page.wait_text(say("collect.taken", name="0.0"))
-    page.push(say("collect.end"))
+    take_all(page, [changed(SOUND_PAPER, exponent=14)])
     answer_passphrase(page, "TREZOR", None)
     page.wait_text(say("time.long", exponent=14, time="@").split("@")[0])
     check_bar(page)
@@ -70,16 +64,13 @@ def check_stop(page, see):
     page.push(say("again"))
     answer_passphrase(page, "TREZOR", None)
     page.wait_text(say("time.long", exponent=14, time="@").split("@")[0])
-    page.push(say("clear"))
-    page.wait_title(say("home.title"))
+    clear(page)
 
 
 def check_stop_drill(page, see):
     """A drill that is stopped before its first quorum says only that, and no verdict on the papers."""
     begin(page, "check")
-    paste(page, changed(SOUND_PAPER, exponent=14))
-    page.wait_text(say("collect.taken", name="0.0"))
-    page.push(say("collect.end"))
+    take_all(page, [changed(SOUND_PAPER, exponent=14)])
     answer_passphrase(page, "TREZOR", None)
     page.wait_text(say("time.long", exponent=14, time="@").split("@")[0])
     page.push(say("drill.start"))
@@ -100,17 +91,14 @@ def check_stop_make(page, _):
     choose_wallet(page)
     page.evaluate("document.querySelector('details').open = true; null")
     page.tick(say("passphrase.none"))
-    page.go_to("spinbutton", say("more.exponent"))
-    page.evaluate("document.activeElement.select()")
-    page.type("14")
+    page.retype(say("more.exponent"), "14", "spinbutton")
     page.push(say("make.create"))
     page.wait_title(say("make.work"))
     page.wait_text(say("time.about", time="@").split("@")[0])
     check_bar(page)
     page.push(say("stop"))
     page.wait_text(say("make.stopped"))
-    page.push(say("clear"))
-    page.wait_title(say("home.title"))
+    clear(page)
 
 
 CHECKS = [check_big, check_most, check_stop, check_stop_drill, check_stop_make]

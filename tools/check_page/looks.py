@@ -4,7 +4,7 @@ import functools
 from browsers import Failed, browser
 from hands import Page
 from samples import SOUND_PAPER
-from tasks import begin, choose_wallet, create, found_words, type_damaged, type_paper
+from tasks import begin, choose_wallet, clear, create, found_words, type_damaged, type_paper
 from texts import say
 
 # The contrast that WCAG 2.2 asks for at level AA: of a text, and of a large one.
@@ -77,8 +77,7 @@ def check(name, url, see_page):
             page.push(say("collect.unread.drop"))
             page.wait_title(say("check.passphrase"))
             check_screen(page, f"{mode} passphrase", see)
-            page.push(say("clear"))
-            page.wait_title(say("home.title"))
+            clear(page)
             begin(page, "damaged")
             type_damaged(page, "? ? ? " + " ".join(SOUND_PAPER.split()[3:]))
             page.wait(lambda: found_words(page).count("\n") == 1, "the papers that fit")
@@ -135,8 +134,7 @@ def check_left(page):
     begin(page, "check")
     page.push(say("collect.end"))
     page.wait_text(say("collect.none"))
-    page.push(say("clear"))
-    page.wait_title(say("home.title"))
+    clear(page)
 
 
 # Makes the page believe that its tab is hidden, or that it isn't.
@@ -151,8 +149,7 @@ def check_hidden_words(page):
     page.evaluate(HIDE % "false")
     page.push(say("paper.show"))
     page.wait(lambda: found_words(page).strip(), "the found words again")
-    page.push(say("clear"))
-    page.wait_title(say("home.title"))
+    clear(page)
     if page.evaluate("document.querySelectorAll('.fit, main input').length"):
         raise Failed("a cleared page shows words that were found")
 
@@ -184,8 +181,6 @@ def check_unfinished(page, see):
         raise Failed("the answer that goes on with the papers leaves them")
     page.push(say("paper.show"))
     page.wait(lambda: words_shown(page) == 20, "the words again")
-    page.push(say("clear"))
-    page.push(say("clear.yes"))
-    page.wait_title(say("home.title"))
+    clear(page, is_asked=True)
     if words_shown(page):
         raise Failed("a cleared page shows a paper")

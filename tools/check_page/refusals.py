@@ -3,8 +3,8 @@ import json
 
 from browsers import Failed
 from samples import BAD_CHECKSUM, BAD_PADDING, BIP39, EXCHANGED, FINGERPRINT, PASSPHRASE, SECRET, SOUND_PAPER, THREE_GROUPS
-from samples import changed, name_of, opening, refused_beside, with_words
-from tasks import answer_passphrase, begin, choose_wallet, end, type_digits, type_paper
+from samples import changed, opening, refused_beside, with_words
+from tasks import answer_passphrase, begin, begin_replace, choose_wallet, clear, drill, end, paste, take_all, type_digits, type_paper
 from texts import counted, say
 
 import plain
@@ -55,8 +55,7 @@ def check_papers(page, see):
     page.wait_text(say("collect.dropped", name="0.0"))
     if say("collect.taken", name="0.0") in page.text():
         raise Failed("a paper that was taken out is still said to be sound")
-    page.push(say("clear"))
-    page.wait_title(say("home.title"))
+    clear(page)
 
 
 def check_wrong_word(page):
@@ -84,9 +83,7 @@ def check_words(page, see):
     page.wait_text(say("collect.taken", name="0.0"))
     page.push(say("collect.drop", name="0.0"))
     page.wait_text(say("collect.dropped", name="0.0"))
-    page.go_to("spinbutton", say("entry.count"))
-    page.evaluate("document.activeElement.select()")
-    page.type("21")
+    page.retype(say("entry.count"), "21", "spinbutton")
     page.go_to("textbox", say("entry.word", number=1))
     page.type(f"{SOUND_PAPER} acid ")
     page.wait_text(said(12, first=21))
@@ -113,15 +110,7 @@ def check_words(page, see):
     numbered = "".join(f"{number}. {word.upper()},\n" for number, word in enumerate(SOUND_PAPER.split(), 1))
     paste(page, heading + numbered)
     page.wait_text(say("collect.taken", name="0.0"))
-    page.push(say("clear"))
-    page.wait_title(say("home.title"))
-
-
-def paste(page, text):
-    """Pastes a text into the first field. The clipboard itself isn't used, since other programs of this machine share it."""
-    page.go_to("textbox", say("entry.word", number=1))
-    script = "{ const event = new Event('paste', { bubbles: true, cancelable: true }); event.clipboardData = { getData: () => " + repr(text) + " };"
-    page.evaluate(script + " document.activeElement.dispatchEvent(event); } null")
+    clear(page)
 
 
 def check_values(page, see):
@@ -156,8 +145,7 @@ def check_values(page, see):
         page.wait_text(text)
     if said(41, first=2) in page.text():
         raise Failed("what was refused before stays beside what is missing now")
-    page.push(say("clear"))
-    page.wait_title(say("home.title"))
+    clear(page)
 
 
 def check_digits(page, see):
@@ -172,7 +160,7 @@ def check_digits(page, see):
         (SECRET, changed_digits, FINGERPRINT, say("secret.differ")),
         (SECRET, SECRET, "", say("noted.missing")),
     ]:
-        if not page.is_true("(it) => it.getAttribute('aria-checked') === 'true'", page.node("radio", say("secret.own"))):
+        if not page.is_chosen(say("secret.own")):
             raise Failed("after a refusal, another secret is chosen")
         # What was typed before stays in its fields.
         page.choose(say("secret.own"))
@@ -199,26 +187,20 @@ def check_mixed(page, see):
         type_paper(page, line, is_by_four=True)
     page.wait_text(say("collect.taken", name="2.0"))
     page.push(say("collect.end"))
-    answer_passphrase(page, PASSPHRASE, "df41d8fe")
-    page.push(say("drill.start"))
+    drill(page, PASSPHRASE, "df41d8fe")
     page.wait_text(say("verdict.some", quorums=counted(7, "quorum"), wrong=4))
     page.wait_text(say("verdict.suspects.one", names="0.2"))
     page.wait_text(say("drill.mismatch", group=0))
     see("drill with a forged paper")
     end(page)
-    begin(page, "replace")
-    page.choose(say("replace.destroyed"))
-    page.push(say("continue"))
+    begin_replace(page)
     type_paper(page, THREE_GROUPS[0], is_by_four=True)
     page.wait_text(say("collect.taken", name="0.0"))
     page.push(say("collect.end"))
     page.wait_text(say("replace.none_yet"))
     see("too few papers to write a missing one")
     page.push(say("collect.more"))
-    for line in THREE_GROUPS[1:3]:
-        paste(page, line)
-        page.wait_text(say("collect.taken", name=name_of(line)))
-    page.push(say("collect.end"))
+    take_all(page, THREE_GROUPS[1:3])
     one, two, whole = counted(1, "paper"), counted(2, "paper"), counted(2, "whole")
     for group, needed, text in [(1, "1", said(66, group=1, more=one, whole=whole, groups=1)), (2, "2", said("66.fewer", group=2, more=two, fewer=one, whole=whole, groups=1))]:
         page.choose(say("which.paper", name=f"{group}.0"))
@@ -254,8 +236,7 @@ def check_prepare(page, _):
             page.push(say("prepare.no"))
             page.wait_title(say("home.title"))
     page.wait_title(say("check.title"))
-    page.push(say("clear"))
-    page.wait_title(say("home.title"))
+    clear(page)
 
 
 def forged_backups():
@@ -273,10 +254,7 @@ def check_noted(page, see):
     page.tick(say("noted.none"))
     for typed, text in [(None, say("noted.both")), ("df41d8fg", say("noted.wrong")), ("", say("noted.missing"))]:
         if typed is not None:
-            page.go_to("textbox", say("noted.label"))
-            page.evaluate("document.activeElement.select()")
-            page.press("Backspace")
-            page.type(typed)
+            page.retype(say("noted.label"), typed)
         page.push(say("continue"))
         page.wait_text(text)
     see("a fingerprint is asked for")
@@ -289,10 +267,7 @@ def check_recovery(page, see):
     for task in ("recover", "check"):
         for lines, text in forged_backups():
             begin(page, task)
-            for line in lines:
-                paste(page, line)
-                page.wait_text(say("collect.taken", name=name_of(line)))
-            page.push(say("collect.end"))
+            take_all(page, lines)
             answer_passphrase(page, "p\u00e4ssword", FINGERPRINT)
             page.wait_text(said(41, first=2))
             page.wait_text(say("passphrase.unfit"))
@@ -306,8 +281,7 @@ def check_recovery(page, see):
                 page.wait_title(say("check.title"))
                 page.push(say("collect.end"))
                 page.wait_title(say("check.passphrase"))
-                page.push(say("clear"))
-                page.wait_title(say("home.title"))
+                clear(page)
                 continue
             else:
                 page.wait_title(say("recover.failed"))
@@ -322,8 +296,7 @@ def check_long_line(page, _):
     begin(page, "check")
     paste(page, " ".join(["academic"] * 128))
     page.wait_text(said(12, first=128))
-    page.push(say("clear"))
-    page.wait_title(say("home.title"))
+    clear(page)
 
 
 # Asks the engine through the page's own worker, and returns what the page says of each answer.

@@ -1,17 +1,11 @@
 """What an owner takes back: a paper that was taken out, and fields that were emptied. Words that are offered, and how numbers are written."""
 from browsers import Failed
-from refusals import paste
 from samples import SOUND_PAPER, THREE_GROUPS
-from tasks import begin
+from tasks import begin, clear, paste, take
 from texts import counted, say
 
 WORDS = "[...document.querySelectorAll('.word:not([hidden]) input')].map((it) => it.value).join(' ')"
 SHOWN = "[...document.querySelectorAll('.ahead button')].map((it) => it.textContent).join(' ')"
-
-
-def clear(page):
-    page.push(say("clear"))
-    page.wait_title(say("home.title"))
 
 
 def check_put_back(page, see):
@@ -35,8 +29,7 @@ def check_put_back(page, see):
         page.wait_text(say("collect.dropped", name=name))
     if say("collect.undo", name="0.1") in page.text():
         raise Failed("the paper that was taken out before the last one can be put back")
-    paste(page, THREE_GROUPS[3])
-    page.wait_text(say("collect.taken", name="1.0"))
+    take(page, [THREE_GROUPS[3]])
     if say("collect.undo", name="0.0") in page.text():
         raise Failed("a paper can be put back beside one that was typed later")
     clear(page)

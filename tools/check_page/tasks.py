@@ -18,6 +18,13 @@ def begin(page, task):
     page.wait(lambda: page.title() not in [say("home.title"), say("prepare.title"), say("prepare.sure.title")], "the first screen of the task")
 
 
+def begin_replace(page, why="destroyed"):
+    """Starts to replace a paper, and says what became of it."""
+    begin(page, "replace")
+    page.choose(say(f"replace.{why}"))
+    page.push(say("continue"))
+
+
 def type_paper(page, line, is_by_four=False):
     """Types a paper's words. Each word is followed by a space, or only its first four letters are typed."""
     page.go_to("textbox", say("entry.word", number=1))
@@ -25,6 +32,26 @@ def type_paper(page, line, is_by_four=False):
         page.push(say("entry.words", count=len(line.split())))
         page.go_to("textbox", say("entry.word", number=1))
     page.type("".join(f"{word[:4]} " for word in line.split()) if is_by_four else line + " ")
+
+
+def paste(page, text):
+    """Pastes a text into the first field. The clipboard itself isn't used, since other programs of this machine share it."""
+    page.go_to("textbox", say("entry.word", number=1))
+    script = "{ const event = new Event('paste', { bubbles: true, cancelable: true }); event.clipboardData = { getData: () => " + repr(text) + " };"
+    page.evaluate(script + " document.activeElement.dispatchEvent(event); } null")
+
+
+def take(page, lines):
+    """Pastes papers that are taken."""
+    for line in lines:
+        paste(page, line)
+        page.wait_text(say("collect.taken", name=name_of(line)))
+
+
+def take_all(page, lines):
+    """Pastes papers that are taken, and goes on."""
+    take(page, lines)
+    page.push(say("collect.end"))
 
 
 def answer_passphrase(page, passphrase, noted):
@@ -40,6 +67,11 @@ def answer_passphrase(page, passphrase, noted):
     page.push(say("continue"))
 
 
+def drill(page, passphrase, noted):
+    answer_passphrase(page, passphrase, noted)
+    page.push(say("drill.start"))
+
+
 def choose_wallet(page, wallet="flag", words=20):
     """Goes on from the plan, and says which wallet will read the papers, and how many words it asks for."""
     page.push(say("continue"))
@@ -53,6 +85,14 @@ def choose_wallet(page, wallet="flag", words=20):
 
 def end(page):
     page.push(say("end"))
+    page.wait_title(say("home.title"))
+
+
+def clear(page, is_asked=False):
+    """Leaves a task before its end. `is_asked` says that the page asks whether that is meant, since papers are half written."""
+    page.push(say("clear"))
+    if is_asked:
+        page.push(say("clear.yes"))
     page.wait_title(say("home.title"))
 
 
@@ -143,9 +183,7 @@ def prove(page, passphrase, fingerprint, is_drawn, see):
     else:
         page.fill(say("passphrase.label"), passphrase)
     for typed, text in [("", "proof.missing"), ("xyz", "proof.wrong"), (fingerprint, "drill.what")] if is_drawn else [(fingerprint, "drill.what")]:
-        page.go_to("textbox", say("noted.label"))
-        page.evaluate("document.activeElement.select()")
-        page.type(typed)
+        page.retype(say("noted.label"), typed)
         page.push(say("continue"))
         page.wait_text(say(text))
     page.push(say("drill.start"))
@@ -192,8 +230,7 @@ def check_papers(page, see):
     page.type(THREE_GROUPS[0] + " ")
     page.wait_text(say("collect.repeated", name="0.0"))
     page.push(say("collect.end"))
-    answer_passphrase(page, PASSPHRASE, FINGERPRINT)
-    page.push(say("drill.start"))
+    drill(page, PASSPHRASE, FINGERPRINT)
     page.wait_text(say("verdict.all.noted", quorums=counted(7, "quorum"), fingerprint=FINGERPRINT))
     page.wait_text(say("quorum.what"))
     page.wait_title(say("check.done.good"))
@@ -203,8 +240,7 @@ def check_papers(page, see):
     page.push(say("collect.back"))
     page.wait_title(say("check.title"))
     page.push(say("collect.end"))
-    answer_passphrase(page, "TREZOr", FINGERPRINT)
-    page.push(say("drill.start"))
+    drill(page, "TREZOr", FINGERPRINT)
     page.wait_text(say("verdict.other", quorums=counted(7, "quorum"), noted=FINGERPRINT))
     page.wait_text(say("drill.other"))
     page.wait_title(say("check.done.other"))
@@ -215,8 +251,7 @@ def check_papers(page, see):
     page.wait_title(say("check.passphrase"))
     if not page.is_true(f"(it) => it.value === '{FINGERPRINT}'", page.node("textbox", say("noted.label"))):
         raise Failed("another try empties the noted fingerprint")
-    page.push(say("clear"))
-    page.wait_title(say("home.title"))
+    clear(page)
 
 
 def check_recover(page, see):
@@ -269,8 +304,7 @@ def check_replace(page, see):
     page.wait_title(say("replace.which"))
     page.wait_text(say("back.same", name="0.1"))
     page.push(say("replace.end"))
-    answer_passphrase(page, PASSPHRASE, None)
-    page.push(say("drill.start"))
+    drill(page, PASSPHRASE, None)
     page.wait_text(say("verdict.all.same", quorums=counted(3, "quorum"), fingerprint=FINGERPRINT))
     page.wait_title(say("check.done.same"))
     for text in (say("noted.first"), say("replace.tried.one", names="0.1")):
@@ -279,9 +313,7 @@ def check_replace(page, see):
         raise Failed("without a noted fingerprint, a result is said to be good")
     see("end of a check without a noted fingerprint")
     end(page)
-    begin(page, "replace")
-    page.choose(say("replace.other"))
-    page.push(say("continue"))
+    begin_replace(page, "other")
     page.wait_text(say("replace.new.change"))
     see("a new backup instead")
     page.push(say("replace.new.change.go"))
@@ -339,8 +371,7 @@ def check_damaged(page, see):
         type_paper(page, line)
         page.wait_text(say("collect.taken", name=name_of(line)))
     page.push(say("collect.end"))
-    answer_passphrase(page, PASSPHRASE, FINGERPRINT)
-    page.push(say("drill.start"))
+    drill(page, PASSPHRASE, FINGERPRINT)
     page.wait_text(say("verdict.all.noted", quorums=counted(1, "quorum"), fingerprint=FINGERPRINT))
     end(page)
 
