@@ -1,15 +1,8 @@
 """Where an owner who reads only the screen could go astray: papers that don't work, results that say too much, and what may be destroyed."""
-from browsers import Failed
 from looks import check_screen
 from samples import FINGERPRINT, PASSPHRASE, SOUND_PAPER, THREE_GROUPS, TWO, changed, fingerprint_of, name_of, named, opening, papers_of, swapped, with_words
 from tasks import answer_passphrase, begin, begin_replace, clear, drill, end, found_words, paste, read_paper, take, take_all, type_damaged, type_paper
 from texts import counted, say
-
-
-def silent(page, text):
-    """Checks that a text isn't on the screen."""
-    if text in page.text():
-        raise Failed(f"this is shown, and shouldn't be: {text!r}")
 
 
 def leave_out(page, papers):
@@ -28,7 +21,7 @@ def check_left_out(page, see):
     noted = fingerprint_of(papers, "")
     begin(page, "check")
     page.wait_text("Have the passphrase at hand too, if there is one, and the fingerprint that you noted.")
-    silent(page, "Type the words in their order")
+    page.lacks("Type the words in their order")
     leave_out(page, papers)
     take(page, [*papers[:3], papers[5]])
     for left, more in [(2, [papers[3]]), (1, [papers[4]]), (0, [])]:
@@ -44,7 +37,7 @@ def check_left_out(page, see):
             page.wait_title(say("check.title"))
             take(page, more)
         else:
-            silent(page, "left out")
+            page.lacks("left out")
     end(page)
     begin(page, "recover")
     take(page, papers[:1])
@@ -56,8 +49,7 @@ def check_left_out(page, see):
     page.push(say("collect.end"))
     page.push(say("collect.unread.drop"))
     page.wait_title(say("recover.few"))
-    for text in (counted(1, "left"), say("left.sound.one", names="0.1")):
-        page.wait_text(text)
+    page.wait_text(counted(1, "left"), say("left.sound.one", names="0.1"))
     end(page)
 
 
@@ -68,8 +60,8 @@ def check_impossible(page, see):
     begin(page, "damaged")
     paste(page, with_words(line, {5: "?", 6: "?", 7: "?"}))
     page.wait_text(say("damaged.impossible", name="12.0", groups=counted(10, "group")))
-    silent(page, say("damaged.write", name="12.0"))
-    silent(page, say("damaged.one", name="12.0"))
+    page.lacks(say("damaged.write", name="12.0"))
+    page.lacks(say("damaged.one", name="12.0"))
     see("a paper that no backup has")
     clear(page)
     begin(page, "check")
@@ -93,14 +85,14 @@ def check_repaired(page, see):
     read_paper(page)
     page.push(say("clear"))
     page.wait_text("destroy only a paper written now and not typed back. Keep all others: your old ones, and those typed back.")
-    silent(page, say("clear.unfinished"))
+    page.lacks(say("clear.unfinished"))
     page.push(say("clear.stay"))
     page.push(say("paper.written"))
     type_paper(page, line)
     page.wait_title(say("damaged.check.title"))
     paste(page, changed(THREE_GROUPS[1], exponent=3))
     page.wait_text("Most likely paper 0.0 is wrong, of which words were found and not read.")
-    silent(page, "is of another backup, or forged")
+    page.lacks("is of another backup, or forged")
     see("a repaired paper is blamed")
     page.push(say("entry.empty"))
     take_all(page, THREE_GROUPS[1:4])
@@ -136,7 +128,7 @@ def check_untried(page, see):
         for text in wanted:
             page.wait_text(text)
         for text in unwanted:
-            silent(page, text)
+            page.lacks(text)
         see(f"what a drill shows of a repaired paper {title}")
         end(page)
 
@@ -155,7 +147,7 @@ def check_lost(page, see):
     page.fill(say("which.needed"), "1", "spinbutton")
     page.push(say("which.write"))
     page.wait_text(f"{say('which.untold', name='1.0')} No other papers give it. If your wallet still works, make a new wallet, and move your money to it.")
-    silent(page, "Or it takes")
+    page.lacks("Or it takes")
     see("a paper that nothing else gives")
     page.choose(say("which.paper", name="0.4"))
     page.push(say("which.write"))
@@ -172,7 +164,7 @@ def check_lost(page, see):
     page.push(say("which.write"))
     page.wait_title(say("paper.title", name="0.2"))
     page.wait_text(say("takes.papers", needed=2))
-    silent(page, "of the 16 papers")
+    page.lacks("of the 16 papers")
     clear(page, is_asked=True)
 
 
@@ -189,7 +181,7 @@ def check_without(page, see):
             page.push(say("drill.start"))
         page.wait_title(say(title))
         page.wait_text(text)
-        silent(page, "passphrase is mistyped")
+        page.lacks("passphrase is mistyped")
         see(f"{task} without the passphrase")
         end(page)
 
@@ -203,7 +195,7 @@ def check_apart(page, see):
     paste(page, THREE_GROUPS[0])
     page.wait_text(say("collect.taken.apart", name="0.0", begin=own))
     page.wait_text(say("collect.apart", count=2))
-    silent(page, say("collect.end"))
+    page.lacks(say("collect.end"))
     see("the first paper of another backup")
     for line in THREE_GROUPS[1:4]:
         paste(page, line)
@@ -227,8 +219,7 @@ def check_apart(page, see):
     drill(page, PASSPHRASE, FINGERPRINT)
     page.wait_title(say("check.done.left_out"))
     page.wait_text(say("verdict.all.noted", quorums=counted(3, "quorum"), fingerprint=FINGERPRINT))
-    for text in (say("left.backup.one", names="0.0", begin=other), say("left.backup.one", names=name_of(TWO[0]), begin=third), say("left.sound.one", names="2.0")):
-        page.wait_text(text)
+    page.wait_text(say("left.backup.one", names="0.0", begin=other), say("left.backup.one", names=name_of(TWO[0]), begin=third), say("left.sound.one", names="2.0"))
     see("a result beside papers of other backups")
     page.push(say("collect.back"))
     page.wait_text(say("collect.apart", count=3))
@@ -287,7 +278,7 @@ def check_several_repaired(page, see):
         page.wait_title(say("damaged.title"))
         paste(page, with_words(changed(papers[2], exponent=3), {6: "?"}))
         page.wait_text(say("damaged.apart", name="0.2"))
-        silent(page, say("damaged.write", name="0.2"))
+        page.lacks(say("damaged.write", name="0.2"))
         see("a damaged paper that can't be of the others' backup")
         page.push(say("back"))
         page.push(say("entry.lost.go"))

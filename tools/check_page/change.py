@@ -42,8 +42,7 @@ def pictures(page, see, what):
 def write(page, see, old, is_checked=False):
     """Writes the new papers down, and types them back. An old paper isn't taken for a new one. Returns the new ones."""
     page.wait_title(say("change.forms"))
-    for text in (say("change.mark"), say("forms.print")):
-        page.wait_text(text)
+    page.wait_text(say("change.mark"), say("forms.print"))
     pictures(page, see, "pen and paper")
     page.push(say("forms.go"))
     new = []
@@ -83,8 +82,7 @@ def finish(page):
 def check_done(page, see, what, texts, green, title="change.done"):
     page.wait_title(say(title))
     keep = say("make.keep").split(". ")[1]
-    for text in (*texts, keep, say("change.same"), say("change.restore"), say("change.mixed"), say("change.thief")):
-        page.wait_text(text)
+    page.wait_text(*texts, keep, say("change.same"), say("change.restore"), say("change.mixed"), say("change.thief"))
     if page.text().index(say("change.restore")) > page.text().index(say("change.old.title")):
         raise Failed("what is to be destroyed is told before what is to be done first")
     check_green(page, green)
@@ -235,8 +233,7 @@ def check_wrong(page, see):
     pictures(page, see, "what is tried")
     page.push(say("drill.start"))
     page.wait_title(say("change.unproved"))
-    for text in (say("verdict.some", wrong=2, quorums=counted(3, "quorum")), say("verdict.suspects.one", names="0.2"), say("change.old.wrong")):
-        page.wait_text(text)
+    page.wait_text(say("verdict.some", wrong=2, quorums=counted(3, "quorum")), say("verdict.suspects.one", names="0.2"), say("change.old.wrong"))
     check_green(page, [])
     if page.text().index(say("change.old.title")) > page.text().index(say("drill.caption")):
         raise Failed("nothing above the table says that its papers are the old ones")

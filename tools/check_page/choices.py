@@ -54,14 +54,12 @@ def check_wallet(page, see):
     page.wait_text(f"only shamir {VERSION} was tried")
     see("which wallet")
     page.choose(say("wallet.older"))
-    if say("wallet.missing") in page.text():
-        raise Failed("what was missing stays after it was chosen")
+    page.lacks(say("wallet.missing"), "what was missing stays after it was chosen")
     page.push(say("back"))
     page.wait_title(say("make.plan"))
     for wallet in ("unknown", "older", "flag"):
         choose_wallet(page, wallet, 33)
-        for text in (say("secret.new.hint", bytes=32, words=33), say("passphrase.new")):
-            page.wait_text(text)
+        page.wait_text(say("secret.new.hint", bytes=32, words=33), say("passphrase.new"))
         page.push(say("back"))
         page.wait_title(say("make.wallet"))
         for chosen in (say(f"wallet.{wallet}"), say("entry.words", count=33)):
@@ -377,8 +375,7 @@ def check_help(page, see):
     if asked != 10 or say("help.lost.answer") in page.text():
         raise Failed(f"the first screen has {asked} questions, or an answer that wasn't asked for")
     page.evaluate("for (const it of document.querySelectorAll('.help details')) it.open = true; null")
-    for text in (say("help.heir.answer"), say("help.lost.answer")):
-        page.wait_text(text)
+    page.wait_text(say("help.heir.answer"), say("help.lost.answer"))
     see("help")
     page.evaluate("for (const it of document.querySelectorAll('.help details')) it.open = false; null")
     begin(page, "what")

@@ -17,8 +17,7 @@ def check_unread(page, see):
     page.press("Backspace", "Backspace")
     paste(page, TWO[0])
     page.wait_text(say("status.not_enough", needed=counted(2, "paper"), here=1))
-    if "roup" in page.text():
-        raise Failed(f"the page speaks of groups, and the backup has one: {page.text()!r}")
+    page.lacks("roup", f"the page speaks of groups, and the backup has one: {page.text()!r}")
     for what, typed in [("a refused paper", BAD_CHECKSUM), ("half a paper", " ".join(TWO[1].split()[:9]))]:
         page.go_to("textbox", say("entry.word", number=1))
         page.type(typed + " ")

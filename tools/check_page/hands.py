@@ -156,11 +156,17 @@ class Page:
     def wait_title(self, title):
         self.wait(lambda: self.title() == title, f"the screen {title!r}")
 
-    def wait_text(self, text):
-        self.wait(lambda: text in self.text(), f"the text {text!r}")
+    def wait_text(self, *texts):
+        for text in texts:
+            self.wait(lambda: text in self.text(), f"the text {text!r}")
         bare = re.search(r"\(\d\d[:)]", self.text())
         if bare:
             raise Failed(f"a number that owners don't know is shown: {bare[0]}")
+
+    def lacks(self, text, why="this is shown, and shouldn't be"):
+        """Checks that a text isn't on the screen."""
+        if text in self.text():
+            raise Failed(f"{why}: {text!r}")
 
     def picture(self):
         """Returns a picture of the whole page, as PNG."""

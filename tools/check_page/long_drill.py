@@ -29,8 +29,7 @@ def check_big(page, see):
     page.wait_text(verdict)
     # A count is no comparison.
     check_green(page, [verdict])
-    if "All quorums" in page.text():
-        raise Failed("the page says that all quorums were tried")
+    page.lacks("All quorums", "the page says that all quorums were tried")
     see("drill of too many quorums")
     end(page)
 

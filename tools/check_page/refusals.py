@@ -53,8 +53,7 @@ def check_papers(page, see):
     page.wait_text(say("collect.row", name="0.0", words=20))
     page.push(say("collect.drop", name="0.0"))
     page.wait_text(say("collect.dropped", name="0.0"))
-    if say("collect.taken", name="0.0") in page.text():
-        raise Failed("a paper that was taken out is still said to be sound")
+    page.lacks(say("collect.taken", name="0.0"), "a paper that was taken out is still said to be sound")
     clear(page)
 
 
@@ -143,8 +142,7 @@ def check_values(page, see):
                 see("a passphrase that wallets don't take")
         page.push(say("make.create"))
         page.wait_text(text)
-    if said(41, first=2) in page.text():
-        raise Failed("what was refused before stays beside what is missing now")
+    page.lacks(said(41, first=2), "what was refused before stays beside what is missing now")
     clear(page)
 
 
@@ -207,8 +205,7 @@ def check_mixed(page, see):
         page.fill(say("which.needed"), needed, "spinbutton")
         page.push(say("which.write"))
         page.wait_text(f"{say('which.untold', name=f'{group}.0')} {text}")
-    if "other groups" in page.text():
-        raise Failed("the page tells an owner of 'other groups' in the engine's words")
+    page.lacks("other groups", "the page tells an owner of 'other groups' in the engine's words")
     see("papers that the rest don't determine")
     page.push(say("replace.end"))
     page.wait_text(say("replace.too_few"))

@@ -22,16 +22,13 @@ def check_put_back(page, see):
         page.push(say("collect.undo", name=name))
         page.wait_text(say("collect.undone", name=name))
         page.wait_text(say("status.not_enough", needed=counted(2, "whole"), here=1))
-        if say("collect.undo", name=name) in page.text():
-            raise Failed("a paper that is back can be put back again")
+        page.lacks(say("collect.undo", name=name), "a paper that is back can be put back again")
     for name in ("0.1", "0.0"):
         page.push(say("collect.drop", name=name))
         page.wait_text(say("collect.dropped", name=name))
-    if say("collect.undo", name="0.1") in page.text():
-        raise Failed("the paper that was taken out before the last one can be put back")
+    page.lacks(say("collect.undo", name="0.1"), "the paper that was taken out before the last one can be put back")
     take(page, [THREE_GROUPS[3]])
-    if say("collect.undo", name="0.0") in page.text():
-        raise Failed("a paper can be put back beside one that was typed later")
+    page.lacks(say("collect.undo", name="0.0"), "a paper can be put back beside one that was typed later")
     clear(page)
 
 
@@ -40,8 +37,7 @@ def check_emptied(page, see):
     typed = " ".join(SOUND_PAPER.split()[:7])
     for task in ("check", "damaged"):
         begin(page, task)
-        if say("entry.undo") in page.text():
-            raise Failed("words can be brought back before any were emptied")
+        page.lacks(say("entry.undo"), "words can be brought back before any were emptied")
         page.type(typed + " ")
         page.wait(lambda: page.evaluate(WORDS).strip() == typed, "the words that were typed")
         page.push(say("entry.empty"))

@@ -234,8 +234,7 @@ def check_papers(page, see):
     page.wait_text(say("verdict.all.noted", quorums=counted(7, "quorum"), fingerprint=FINGERPRINT))
     page.wait_text(say("quorum.what"))
     page.wait_title(say("check.done.good"))
-    if say("again") in page.text():
-        raise Failed("a good result is offered to be tried again")
+    page.lacks(say("again"), "a good result is offered to be tried again")
     see("end of a good check")
     page.push(say("collect.back"))
     page.wait_title(say("check.title"))
@@ -264,19 +263,16 @@ def check_recover(page, see):
     answer_passphrase(page, "TREZOr", FINGERPRINT)
     page.wait_title(say("recover.done.other"))
     see("another secret is recovered")
-    if say("digits.show") in page.text():
-        raise Failed("the digits of another secret than the noted one are offered")
+    page.lacks(say("digits.show"), "the digits of another secret than the noted one are offered")
     page.push(say("again"))
     answer_passphrase(page, PASSPHRASE, FINGERPRINT)
     page.wait_title(say("recover.done.same"))
-    if SECRET[:8] in page.text():
-        raise Failed("the digits show before the button is pressed")
+    page.lacks(SECRET[:8], "the digits show before the button is pressed")
     page.push(say("digits.show"))
     page.wait(lambda: SECRET in page.text().replace(" ", ""), "the digits")
     page.wait_text(say("recover.next"))
     see("recovered")
-    if say("again") in page.text():
-        raise Failed("a recovery of the noted secret is offered to be tried again")
+    page.lacks(say("again"), "a recovery of the noted secret is offered to be tried again")
     page.press("Enter")
     page.wait(lambda: SECRET[:8] not in page.text(), "the end of the digits")
     end(page)
@@ -307,8 +303,7 @@ def check_replace(page, see):
     drill(page, PASSPHRASE, None)
     page.wait_text(say("verdict.all.same", quorums=counted(3, "quorum"), fingerprint=FINGERPRINT))
     page.wait_title(say("check.done.same"))
-    for text in (say("noted.first"), say("replace.tried.one", names="0.1")):
-        page.wait_text(text)
+    page.wait_text(say("noted.first"), say("replace.tried.one", names="0.1"))
     if say("check.done.good") in page.text() or say("again") not in page.text():
         raise Failed("without a noted fingerprint, a result is said to be good")
     see("end of a check without a noted fingerprint")
@@ -363,8 +358,7 @@ def check_damaged(page, see):
     page.push(say("collect.end"))
     page.wait_title(say("check.done.few"))
     page.wait_text(say("damaged.too_few"))
-    if "sound" in page.text():
-        raise Failed(f"a repaired paper is called sound: {page.text()!r}")
+    page.lacks("sound", f"a repaired paper is called sound: {page.text()!r}")
     see("too few papers for a repaired one")
     page.push(say("collect.more"))
     for line in (THREE_GROUPS[0], THREE_GROUPS[3]):

@@ -5,7 +5,7 @@ import random
 import re
 
 from hands import SEED, Failed, counted, say
-from tasks import Owner, change, check_changed, make, paper_prompt
+from tasks import Owner, change, check_changed, end_by_keys, make, paper_prompt, started
 
 import plain
 from samples import PLANS, PROGRAM, Generated, changed, data_of, name_of
@@ -82,8 +82,7 @@ def compare_check(case):
         owner.passphrase(case.passphrase, case.noted)
         owner.wait(say("next.good"), say("next.again"), say("next.papers"))
         owner.expect(expected_verdict(case, output.splitlines()[:-1]))
-        owner.type("\x03")
-        owner.end(130)
+        end_by_keys(owner)
 
 
 def compare_recover(case):
@@ -98,15 +97,13 @@ def compare_recover(case):
             owner.wait(say("next.papers"))
             code, *group = re.findall(r"\d+", message)
             owner.expect(say(f"refused.{code}", first=group[0]) if group else say(f"refused.{code}.groups"))
-            owner.type("\x03")
-            owner.end(130)
+            end_by_keys(owner)
             return None
         owner.answer(f"{say('recover.show')} (y/n)", "y")
         owner.wait(say("recover.clear"))
         if "".join(re.findall(r"\b[0-9a-f]{8}\b", owner.screen())) != output.strip():
             raise Failed(f"{case.plan}: the dialogue shows other digits than ./shamir")
-        owner.type("\x03")
-        owner.end(130)
+        end_by_keys(owner)
 
 
 def compare_replace(case):
@@ -127,8 +124,7 @@ def compare_replace(case):
         if owner.wait(say("more.papers"), choose) == say("more.papers"):
             if status == 0:
                 raise Failed(f"{case.plan}: ./shamir writes a paper that the dialogue calls undetermined")
-            owner.type("\x03")
-            return owner.end(130)
+            return end_by_keys(owner)
         owner.answer(choose, name_of(lost))
         if group not in [int(name_of(line).split(".")[0]) for line in rest]:
             owner.answer(say("which.ask.needed", group=group), groups[group])
@@ -139,8 +135,7 @@ def compare_replace(case):
         else:
             owner.wait(choose)
             owner.expect(say("which.untold", name=name_of(lost)))
-        owner.type("\x03")
-        owner.end(130)
+        end_by_keys(owner)
 
 
 def compare_change(case):
@@ -156,8 +151,7 @@ def compare_change(case):
         papers = change(owner, plan, wallet)
         owner.passphrase(case.passphrase, case.noted)
         owner.wait(say("screen.end"))
-        owner.type("\x03")
-        owner.end(130)
+        end_by_keys(owner)
     before, after = [case.told(["recover", "--fingerprint"], data_of(lines)) for lines in (old, papers)]
     if before != after or before[0].strip() != case.noted:
         raise Failed(f"{case.plan} to {plan}: ./shamir recovers another secret from the new papers")
@@ -172,23 +166,20 @@ def compare_repair(case):
     told = case.told(["repair"], (" ".join(words) + "\n").encode())[0].splitlines()
     # The dialogue takes no paper that no backup has.
     fits = [fit for fit in told if (fields := plain.parse(fit.encode()))["group"] < fields["group_count"]]
-    with Owner("repair") as owner:
-        owner.prepare()
+    with started("repair") as owner:
         owner.answer(say("damaged.ask"), " ".join(words))
         owner.wait(say("damaged.menu"), say("damaged.menu.two"))
         owner.expect(say("damaged.two") if len(fits) == 2 else say("damaged.one", name=name_of(fits[0])))
         for fit in fits:
             found = [(number, word) for number, (word, mark) in enumerate(zip(fit.split(), words), 1) if word != mark]
             owner.expect(" ".join(f"- {say('entry.place', number=number)}: {word}" for number, word in found))
-        owner.type("\x03")
-        owner.end(130)
+        end_by_keys(owner)
 
 
 def compare_new(case):
     """Makes a backup of the owner's own secret. ./shamir recovers that secret from the papers that are shown."""
     secret = case.secret.hex()
-    with Owner("new", case.plan) as owner:
-        owner.prepare()
+    with started("new", case.plan) as owner:
         papers, noted = make(owner, case.passphrase, case.plan, secret, case.source.choice(["", case.noted]))
     if noted != case.noted or case.told(["recover"], data_of(papers))[0].strip() != secret:
         raise Failed(f"{case.plan}: ./shamir recovers another secret from papers of the dialogue")

@@ -1,9 +1,7 @@
 """Papers of several backups: they are kept apart, the first one isn't trusted, and the owner says which backup is meant."""
-from astray import silent
 from hands import say
-from refusals import end_by_keys, started
 from slips import sure
-from tasks import SIGN, paper_prompt
+from tasks import SIGN, end_by_keys, paper_prompt, started
 
 from samples import FINGERPRINT, LONG, PASSPHRASE, SOUND_PAPER, THREE_GROUPS, TWO, changed, fingerprint_of, name_of, named, opening, with_words
 from shamir.papers.marks import said_count
@@ -43,7 +41,7 @@ def check_first():
         owner.expect(say("check.done.left_out"))
         owner.expect(say("verdict.all.noted", quorums="1 quorum", fingerprint=FINGERPRINT))
         owner.expect(say("left.backup.one", names=name_of(TWO[0]), begin=opening(TWO[0])))
-        silent(owner, say("check.done.good"))
+        owner.lacks(say("check.done.good"))
         end_by_keys(owner)
 
 
@@ -135,7 +133,7 @@ def check_found():
         owner.answer(sure("0.0"), "y")
         owner.wait(paper_prompt(2))
         owner.expect(say("refused.repaired.new"))
-        silent(owner, say("collect.apart", count=2))
+        owner.lacks(say("collect.apart", count=2))
         end_by_keys(owner)
     with started("check") as owner:
         owner.answer(paper_prompt(1), with_words(elsewhere[0], {6: "?"}))

@@ -3,19 +3,13 @@ answer must lead on."""
 import os
 
 from hands import END, Failed, counted, say
-from refusals import NUMBERED, end_by_keys, started, word_prompt
+from refusals import NUMBERED, word_prompt
 from slips import made, sure
-from tasks import SIGN, Owner, paper_prompt
+from tasks import SIGN, end_by_keys, paper_prompt, started
 
 from samples import FINGERPRINT, PASSPHRASE, SECRET, SOUND_PAPER, THREE_GROUPS, changed, fingerprint_of, name_of, named, papers_of, swapped, with_words
 
 PLAN = "2/3of5,1of1"
-
-
-def silent(owner, text):
-    """Checks that a text wasn't shown since the last `forget`."""
-    if text in owner.emulator.all_seen():
-        raise Failed(f"this is shown, and shouldn't be: {text!r}")
 
 
 def leave_out_two(owner, papers):
@@ -46,8 +40,8 @@ def check_left_out():
             owner.expect(say(f"check.done.{title}"))
             tried = [line for line in papers if left == 0 or line in papers[:3] + papers[5:] or (left == 1 and line == papers[3])]
             owner.expect(say("verdict.papers", names=named(tried)))
-            silent(owner, say("check.done.good" if left else "check.done.left_out"))
-            silent(owner, "left out" if not left else "The papers that you typed have no others")
+            owner.lacks(say("check.done.good" if left else "check.done.left_out"))
+            owner.lacks("left out" if not left else "The papers that you typed have no others")
             if left:
                 owner.expect(counted(left, "left"))
                 owner.answer(say("next.good"), "p")
@@ -70,7 +64,7 @@ def check_refused():
         owner.wait(say("next.good"))
         owner.expect(say("check.done.left_out"))
         owner.expect(say("left.sound.one", names="1.0"))
-        silent(owner, counted(1, "left"))
+        owner.lacks(counted(1, "left"))
         end_by_keys(owner)
 
 
@@ -85,7 +79,7 @@ def check_pasted_papers():
                 owner.type("".join(f"{end}{line}{end}" for line in papers) + last)
                 owner.wait(paper_prompt(4))
                 owner.expect(say("paste.taken", names="0.0, 0.1, 0.2"))
-                silent(owner, say("collect.none"))
+                owner.lacks(say("collect.none"))
                 while owner.pull(0.2):
                     pass
                 # A terminal can send both for the key.
@@ -222,17 +216,17 @@ def check_without():
         line = owner.written()[0]
         owner.answer(say("screen.next"), "")
         owner.wait(say("back.ask", name="0.0"))
-        silent(owner, "Type the words in their order")
+        owner.lacks("Type the words in their order")
         owner.answer(say("back.ask", name="0.0"), line)
         owner.wait(say("noted.done"))
-        silent(owner, "helps to guess the passphrase")
+        owner.lacks("helps to guess the passphrase")
         owner.answer(say("noted.done"), "")
         owner.prove(owner.noted(), "")
         owner.wait(say("screen.end"))
         owner.expect(say("quorum.what"))
         owner.expect("This backup has no passphrase.")
         owner.expect("This paper alone recovers the secret, so keep it where nobody finds it.")
-        silent(owner, "if there is one, in another place")
+        owner.lacks("if there is one, in another place")
         owner.answer(say("screen.end"), "e")
         owner.end(0)
 
@@ -299,7 +293,7 @@ def check_lost():
         owner.answer(say("which.ask.needed", group=1), "1")
         owner.wait(say("replace.choose"))
         owner.expect(f"{say('which.untold', name='1.0')} No other papers give it. If your wallet still works, make a new wallet, and move your money to it.")
-        silent(owner, "Or it takes")
+        owner.lacks("Or it takes")
         owner.answer(say("replace.choose"), "0.4")
         owner.answer(say("new.write"), "")
         owner.type_paper(say("back.ask", name="0.4"), papers[4])
@@ -312,7 +306,7 @@ def check_lost():
         owner.answer(say("replace.choose"), "d")
         owner.wait(say("more.papers"))
         owner.expect(say("replace.done"))
-        silent(owner, say("replace.few"))
+        owner.lacks(say("replace.few"))
         # With enough papers, the drill comes next.
         owner.answer(say("more.papers"), papers[5])
         owner.answer(paper_prompt(7), "")
@@ -325,8 +319,7 @@ def check_lost():
 
 def check_unsaid():
     """What a terminal that can't be cleared does, a passphrase that wasn't typed, and a paper of another backup."""
-    with Owner("new", "1of1", TERM="dumb") as owner:
-        owner.prepare()
+    with started("new", "1of1", TERM="dumb") as owner:
         made(owner)
         if b"cleared then" in owner.raw:
             raise Failed("words are said to be cleared that stay")
@@ -345,8 +338,8 @@ def check_unsaid():
             owner.passphrase("", FINGERPRINT)
             owner.wait(say("next.again"))
             owner.expect(told)
-            silent(owner, "With this passphrase")
-            silent(owner, "the passphrase is mistyped")
+            owner.lacks("With this passphrase")
+            owner.lacks("the passphrase is mistyped")
             end_by_keys(owner)
 
 
@@ -362,8 +355,7 @@ def check_line():
 
 def check_size():
     """A terminal that gets another size shows a paper anew, and any other screen as it was."""
-    with Owner("new", "1of1", columns=80, rows=24) as owner:
-        owner.prepare()
+    with started("new", "1of1", columns=80, rows=24) as owner:
         words = made(owner)
         for columns, rows in [(40, 30), (80, 24)]:
             owner.resize(columns, rows)

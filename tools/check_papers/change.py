@@ -1,8 +1,7 @@
 """The task 'change': old papers with and without the extendable flag, what is refused, the ways back, and how it ends."""
 from hands import END, Failed, say
-from refusals import end_by_keys, started
 from slips import type_damaged
-from tasks import SIGN, change, check_changed, paper_prompt
+from tasks import SIGN, change, check_changed, end_by_keys, paper_prompt, started
 
 import plain
 from samples import PASSPHRASE, SOUND_PAPER, THREE_GROUPS, changed, fingerprint_of, name_of, papers_of
@@ -14,11 +13,6 @@ def backup(plan, is_extendable, exponent=0):
     """Returns the papers of a backup with the passphrase, and the fingerprint of its secret."""
     papers = papers_of(plan, PASSPHRASE, exponent, is_extendable)
     return papers, fingerprint_of(papers, PASSPHRASE)
-
-
-def silent(owner, text):
-    if text in owner.emulator.all_seen():
-        raise Failed(f"this is shown, and shouldn't be: {text!r}")
 
 
 def check_flagless():
@@ -41,13 +35,13 @@ def check_flagless():
                 owner.wait(AGAIN)
                 owner.expect(say("change.other"))
                 owner.expect(say("change.unproved"))
-                silent(owner, say("change.done"))
+                owner.lacks(say("change.done"))
                 owner.answer(AGAIN, "t")
             owner.passphrase(PASSPHRASE, noted)
             owner.wait(say("screen.end"))
             for key in ("change.same", "change.old.renewed", "change.restore"):
                 owner.expect(say(key))
-            silent(owner, say("change.unnoted"))
+            owner.lacks(say("change.unnoted"))
             owner.answer(say("screen.end"), "e")
             owner.end(0)
             check_changed(owner, old, new, "2of3", flag)
@@ -67,7 +61,7 @@ def check_unnoted():
             owner.expect(say("change.agree"))
             owner.expect(say(key))
             owner.expect(say("change.done" if is_extendable else "change.done.unproved"))
-            silent(owner, "[ok]")
+            owner.lacks("[ok]")
             owner.answer(say("screen.end"), "e")
             owner.end(0)
             check_changed(owner, old, new, "1of1", 1)
@@ -105,7 +99,7 @@ def check_refused():
         owner.wait(say("next.good"))
         owner.expect(say("change.failed"))
         owner.expect(say("refused.51", first=0))
-        silent(owner, say("new.write"))
+        owner.lacks(say("new.write"))
         owner.answer(say("next.good"), "p")
         owner.answer(paper_prompt(4), f"{SIGN}0.1")
         owner.type_paper(paper_prompt(3), old[1])
@@ -115,7 +109,7 @@ def check_refused():
         owner.passphrase(PASSPHRASE, "01234567")
         owner.wait(AGAIN)
         owner.expect(say("verdict.other", quorums="1 quorum", noted="01234567"))
-        silent(owner, say("change.done"))
+        owner.lacks(say("change.done"))
         owner.answer(AGAIN, "t")
         owner.passphrase(PASSPHRASE, noted)
         owner.wait(say("screen.end"))
@@ -133,7 +127,7 @@ def check_wrong():
         for key in ("change.old.title", "change.unproved", "change.old.wrong"):
             owner.expect(say(key))
         owner.expect(say("verdict.suspects.one", names="0.2"))
-        silent(owner, say("change.done"))
+        owner.lacks(say("change.done"))
         owner.answer(AGAIN, "e")
         owner.end(0, "closed.changing")
 

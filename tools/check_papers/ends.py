@@ -8,8 +8,8 @@ import subprocess
 import sys
 import termios
 
-from hands import BINDING, END, PATIENCE, Failed, Interrupted, Session, environment, habits, say
-from tasks import Owner, check_change, check_check, check_new, check_recover, check_repair, check_replace, check_what, paper_prompt
+from hands import END, PATIENCE, Failed, Interrupted, environment, habits, say
+from tasks import TASKS, Owner, check_new, end_by_keys, paper_prompt, started
 
 import plain
 from samples import FINGERPRINT, PASSPHRASE, THREE_GROUPS, name_of, with_words
@@ -57,7 +57,7 @@ def questions_of(task):
 def check_keys(see):
     """Ctrl-C and Ctrl-D at each question of each task: nothing is kept, and the terminal is as before."""
     papers, noted = check_new(see)
-    tasks = [lambda: check_new(see), *(lambda it=it: it(papers, noted) for it in (check_check, check_recover, check_replace, check_change, check_repair, check_what))]
+    tasks = [lambda: check_new(see), *(lambda it=it: it(papers, noted) for it in TASKS)]
     with concurrent.futures.ThreadPoolExecutor(AT_ONCE) as pool:
         numbers = list(pool.map(questions_of, tasks))
         jobs = [(task, number, "\x03" if at % 3 else "\x04") for task, found in zip(tasks, numbers) for at, number in enumerate(found)]
@@ -69,22 +69,19 @@ def check_keys(see):
 
 def check_in_the_middle():
     """Ctrl-C in the middle of a line, after a word that was typed."""
-    with Owner("check") as owner:
-        owner.prepare()
+    with started("check") as owner:
         owner.wait(paper_prompt(1))
         owner.type("shadow pistol")
         owner.wait_shown(lambda: "pistol" in owner.screen(), "a word that was typed isn't shown")
         owner.type("\x04")
         owner.pull(0.2)
-        owner.type("\x03")
-        owner.end(130)
+        end_by_keys(owner)
 
 
 def check_signals():
     """TERM and HUP end the program as they ask, and QUIT as Ctrl-C does."""
     for number, status in [(signal.SIGTERM, -signal.SIGTERM), (signal.SIGHUP, -signal.SIGHUP), (signal.SIGINT, 130), (signal.SIGQUIT, 130)]:
-        with Owner("check") as owner:
-            owner.prepare()
+        with started("check") as owner:
             owner.answer(paper_prompt(1), THREE_GROUPS[0])
             owner.wait(paper_prompt(2))
             owner.run.send_signal(number)
@@ -105,8 +102,7 @@ def stop(owner):
 
 def check_work():
     """Ctrl-C while the library works for long, and the key that stops that."""
-    with Owner("new", "2of3") as owner:
-        owner.prepare()
+    with started("new", "2of3") as owner:
         owner.settle()
         owner.answer(say("new.secret"), "m")
         owner.answer(say("new.exponent"), "15")
@@ -124,15 +120,13 @@ def check_work():
         owner.answer(say("new.passphrase"), "TREZOR")
         owner.answer(say("new.passphrase.again"), "TREZOR")
         wait_working(owner)
-        owner.type("\x03")
-        owner.end(130)
+        end_by_keys(owner)
 
 
 def check_stopped_drill():
     """A drill that is stopped says of no quorum that it is right. Each of these papers is a quorum with a secret of its own. Enter stops
     nothing."""
-    with Owner("check") as owner:
-        owner.prepare()
+    with started("check") as owner:
         owner.collect([plain.mnemonic({**SLOW, "group": group, "value": bytes([group]) * 16}) for group in range(4)])
         owner.passphrase("", "01234567")
         wait_working(owner)
@@ -151,8 +145,7 @@ def check_stopped_drill():
 def check_unproved():
     """A new backup whose drill was stopped is no finished one, and the program says so at its end."""
     # The drill takes ten times as long as the making.
-    with Owner("new", "3of5") as owner:
-        owner.prepare()
+    with started("new", "3of5") as owner:
         owner.settle()
         owner.answer(say("new.secret"), "m")
         owner.answer(say("new.exponent"), "8")
@@ -174,8 +167,7 @@ def check_unproved():
 
 def check_two_signals():
     """A second signal doesn't keep the terminal from being restored. The stop lets both come at once."""
-    with Owner("check") as owner:
-        owner.prepare()
+    with started("check") as owner:
         owner.collect([plain.mnemonic({**SLOW, "exponent": 15})])
         owner.passphrase("", "01234567")
         wait_working(owner)
@@ -186,8 +178,7 @@ def check_two_signals():
 
 def check_stopped():
     """After a stop that the program couldn't notice, the screen is shown again, and the echo is off."""
-    with Owner("check") as owner:
-        owner.prepare()
+    with started("check") as owner:
         owner.collect([THREE_GROUPS[3], THREE_GROUPS[4]])
         owner.wait(say("passphrase.ask"))
         shown, modes = owner.screen(), termios.tcgetattr(owner.theirs)
@@ -206,8 +197,7 @@ def check_stopped():
 
 def check_closed():
     """A terminal that is closed ends the program."""
-    with Owner("check") as owner:
-        owner.prepare()
+    with started("check") as owner:
         owner.wait(paper_prompt(1))
         os.close(owner.theirs)
         os.close(owner.ours)
@@ -239,8 +229,7 @@ def check_no_terminal():
 
 def check_menu():
     """Without a task, the program asks for one, by its number or its word. Help answers questions."""
-    with Owner() as owner:
-        owner.prepare()
+    with started() as owner:
         owner.answer(say("home.choose"), "h")
         owner.answer(say("help.choose"), "")
         owner.answer(say("help.choose"), "4")
@@ -251,8 +240,7 @@ def check_menu():
         owner.type("\x04")
         owner.end(130)
     for answer in ("2", "check"):
-        with Owner() as owner:
-            owner.prepare()
+        with started() as owner:
             owner.answer(say("home.choose"), "9")
             owner.answer(say("home.choose"), answer)
             owner.wait(paper_prompt(1))
@@ -342,8 +330,7 @@ def check_written():
 
 def check_written_again():
     """The same for papers that are written again, and for a drill that runs."""
-    with Owner("repair") as owner:
-        owner.prepare()
+    with started("repair") as owner:
         owner.answer(say("damaged.ask"), with_words(THREE_GROUPS[0], {10: "?"}))
         owner.answer(say("damaged.menu"), "w")
         owner.answer(f"{say('damaged.sure', name='0.0')} (y/n)", "y")
@@ -351,8 +338,7 @@ def check_written_again():
         stay(owner, "\x03", say("new.write"))
         leave(owner, "\x03", 130, "ended.repaired")
     for is_drilled in (False, True):
-        with Owner("replace") as owner:
-            owner.prepare()
+        with started("replace") as owner:
             owner.answer(say("replace.how"), "1")
             owner.collect([THREE_GROUPS[0], *THREE_GROUPS[3:]])
             owner.answer(say("replace.choose"), "0.1")
@@ -369,8 +355,7 @@ def check_written_again():
 
 def check_held_drill():
     """Ctrl-C while the drill of a new backup runs: the drill goes on if the owner stays."""
-    with Owner("new", "1of1") as owner:
-        owner.prepare()
+    with started("new", "1of1") as owner:
         owner.settle()
         owner.answer(say("new.secret"), "m")
         owner.answer(say("new.exponent"), "8")

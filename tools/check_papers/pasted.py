@@ -1,8 +1,8 @@
 """Papers that are pasted at once: each is judged, and nothing is dropped without a word."""
 from hands import END, Failed, counted, say
-from refusals import end_by_keys, rows_of, started, word_prompt
+from refusals import rows_of, word_prompt
 from slips import made
-from tasks import SIGN, Owner, paper_prompt
+from tasks import SIGN, Owner, end_by_keys, paper_prompt, started
 
 from samples import changed, name_of, named, opening, papers_of, with_words
 from shamir.papers.marks import said_count

@@ -1,6 +1,6 @@
 """What can be wrong with papers and passphrases, and what the program says and asks then."""
 from hands import Failed, counted, say
-from tasks import SIGN, Owner, paper_prompt
+from tasks import SIGN, end_by_keys, paper_prompt, started
 
 from samples import BAD_CHECKSUM, BAD_PADDING, BIP39, BIP39_LONG, EXCHANGED, FINGERPRINT, LONG, PASSPHRASE, SOUND_PAPER, THREE_GROUPS, TWO
 from samples import changed, fingerprint_of, name_of, named, refused_beside, with_words
@@ -17,12 +17,6 @@ def word_prompt(number):
 
 def back_prompt(number):
     return say("entry.word.back", number=number, sign=SIGN)
-
-
-def started(task, *words, **how):
-    owner = Owner(task, *words, **how)
-    owner.prepare()
-    return owner
 
 
 def check_words():
@@ -48,11 +42,6 @@ def check_words():
         owner.wait(paper_prompt(2))
         owner.expect(say("collect.repeated", name="0.0"))
         end_by_keys(owner)
-
-
-def end_by_keys(owner):
-    owner.type("\x03")
-    owner.end(130)
 
 
 def check_checksum():
@@ -255,8 +244,7 @@ def check_passphrases():
         owner.wait(say("next.again"))
         owner.expect(say("check.done.other"))
         owner.expect("the passphrase is most likely mistyped, or the backup has none")
-        if "Every quorum" in owner.emulator.all_seen():
-            raise Failed("with a wrong passphrase, every quorum is said to be right")
+        owner.lacks("Every quorum", "with a wrong passphrase, every quorum is said to be right")
         owner.answer(say("next.again"), "t")
         check_unnoted(owner)
         owner.answer(paper_prompt(6), "")
@@ -282,11 +270,9 @@ def check_unnoted(owner):
         owner.wait(say("next.unnoted"))
         owner.expect(say("check.done.same"))
         owner.expect(say("verdict.all.same", quorums="7 quorums", fingerprint=fingerprint_of(THREE_GROUPS, passphrase)))
-        if "[ok]" in owner.emulator.all_seen():
-            raise Failed("what was compared with nothing is said to be equal to what was noted")
+        owner.lacks("[ok]", "what was compared with nothing is said to be equal to what was noted")
         owner.expect(say("noted.first"))
-        if say("check.done.good") in owner.emulator.all_seen():
-            raise Failed("without a noted fingerprint, the papers are said to have no fault")
+        owner.lacks(say("check.done.good"), "without a noted fingerprint, the papers are said to have no fault")
         owner.answer(say("next.unnoted"), answer)
 
 
@@ -299,8 +285,7 @@ def check_mixed():
         owner.wait(say("next.papers"))
         owner.expect(say("verdict.some", wrong=4, quorums=counted(7, "quorum")))
         owner.expect(say("verdict.suspects.one", names=name_of(forged)))
-        if "Every quorum" in owner.emulator.all_seen():
-            raise Failed("although quorums are wrong, every quorum is said to be right")
+        owner.lacks("Every quorum", "although quorums are wrong, every quorum is said to be right")
         owner.answer(say("next.papers"), "p")
         owner.answer(paper_prompt(6), f"{SIGN}{name_of(forged)}")
         owner.answer(paper_prompt(5), f"{SIGN}3.3")

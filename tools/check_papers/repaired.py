@@ -1,9 +1,9 @@
 """Papers of which words were found and not read: how they are shown, which of several papers is blamed, and what a drill shows of them."""
-from astray import PLAN, silent
+from astray import PLAN
 from hands import say
-from refusals import NUMBERED, end_by_keys, started, word_prompt
+from refusals import NUMBERED, word_prompt
 from slips import sure
-from tasks import SIGN, paper_prompt
+from tasks import SIGN, end_by_keys, paper_prompt, started
 
 from samples import FINGERPRINT, PASSPHRASE, SOUND_PAPER, THREE_GROUPS, changed, fingerprint_of, papers_of, swapped, with_words
 
@@ -16,7 +16,7 @@ def check_refused_repaired():
         owner.answer(sure("0.0"), "y")
         owner.wait(paper_prompt(2))
         owner.expect("Most likely it is wrong, since words of it were found and not read. It is left out.")
-        silent(owner, "To take a paper out again")
+        owner.lacks("To take a paper out again")
         owner.answer(paper_prompt(2), with_words(THREE_GROUPS[0], {6: "?"}))
         owner.answer(sure("0.0"), "y")
         owner.answer(paper_prompt(3), with_words(changed(THREE_GROUPS[0], value=bytes(16)), {6: "?"}))
@@ -40,7 +40,7 @@ def check_read_later():
         owner.passphrase("", fingerprint_of(papers, ""))
         owner.wait(say("next.good"))
         owner.expect(say("check.done.good"))
-        silent(owner, "Write it anew")
+        owner.lacks("Write it anew")
         owner.answer(say("next.good"), "e")
         owner.end(0)
 
@@ -72,7 +72,7 @@ def check_miswritten():
         owner.wait(say("next.good"))
         owner.expect(say("check.done.damaged"))
         owner.expect("The papers 0.3, 0.4, 0.0 can't be read in full, or are miswritten.")
-        silent(owner, say("check.done.good"))
+        owner.lacks(say("check.done.good"))
         end_by_keys(owner)
 
 
@@ -115,7 +115,7 @@ def check_repaired():
         owner.type_paper(paper_prompt(2), changed(THREE_GROUPS[1], exponent=3))
         owner.wait(paper_prompt(2))
         owner.expect("Most likely paper 0.0 is wrong, of which words were found and not read.")
-        silent(owner, "is of another backup, or forged")
+        owner.lacks("is of another backup, or forged")
         for number, one in enumerate(THREE_GROUPS[1:4], 2):
             owner.type_paper(paper_prompt(number), one)
         owner.answer(paper_prompt(5), "")
@@ -144,7 +144,7 @@ def check_untried():
         owner.wait(say("next.good"))
         owner.expect(say("check.done.left_out"))
         owner.expect(say("damaged.keep"))
-        silent(owner, "is right: the drill gave your secret with it")
+        owner.lacks("is right: the drill gave your secret with it")
         owner.answer(say("next.good"), "e")
         owner.end(0, "closed.repaired")
 

@@ -1,7 +1,7 @@
 """What an owner forgets, mistypes or writes down wrongly, and what the program says and keeps then."""
 from hands import Failed, counted, say
-from refusals import NUMBERED, back_prompt, end_by_keys, started
-from tasks import SIGN, paper_prompt, short
+from refusals import NUMBERED, back_prompt
+from tasks import SIGN, end_by_keys, paper_prompt, short, started
 
 from samples import FINGERPRINT, PASSPHRASE, THREE_GROUPS, name_of, papers_of, swappable, swapped, with_words
 from shamir.papers.marks import said_count
@@ -55,8 +55,7 @@ def check_damaged():
         owner.passphrase(PASSPHRASE, FINGERPRINT)
         owner.wait(say("next.good"))
         owner.expect(say("damaged.right.one", names=names[0]))
-        if "can't be read in full" in owner.emulator.all_seen():
-            raise Failed("a paper that was written anew is still to be written anew")
+        owner.lacks("can't be read in full", "a paper that was written anew is still to be written anew")
         end_by_keys(owner)
 
 
@@ -166,8 +165,7 @@ def check_written_wrongly():
         see_again(owner, last, line)
         owner.answer(last, words[at])
         owner.wait(say("noted.done"))
-        if "type ?" in owner.emulator.all_seen():
-            raise Failed("a question mark is offered where none is taken")
+        owner.lacks("type ?", "a question mark is offered where none is taken")
         end_by_keys(owner)
 
 
@@ -207,8 +205,7 @@ def check_plans():
         owner.answer(plan, "1of2,1of1")
         owner.wait(plan)
         owner.expect(say("refused.31"))
-        if "2/1of2" in owner.emulator.all_seen():
-            raise Failed("a plan is named that the program refuses")
+        owner.lacks("2/1of2", "a plan is named that the program refuses")
         for typed, texts in [
             ("2 / 3-of-5, 1OF1", [say("plan.lost.one", names="1.0"), say("plan.found.group.one", groups="1")]),
             ("2of2", [say("plan.lost.any")]),
@@ -226,8 +223,7 @@ def check_plans():
         owner.forget()
         owner.answer(plan, "2of3")
         owner.wait(say("new.wallet"))
-        if "is lost, the secret is lost" in owner.emulator.all_seen():
-            raise Failed("one paper of 2of3 is said to be needed")
+        owner.lacks("is lost, the secret is lost", "one paper of 2of3 is said to be needed")
         end_by_keys(owner)
 
 

@@ -1,7 +1,7 @@
 """What an owner can answer in the tasks 'new', 'replace' and 'repair', the ways back, and answers where the screen is full."""
 from hands import MORE, Failed, say
-from refusals import NUMBERED, back_prompt, end_by_keys, started, word_prompt
-from tasks import SIGN, Owner, paper_prompt
+from refusals import NUMBERED, back_prompt, word_prompt
+from tasks import SIGN, end_by_keys, paper_prompt, started
 
 import plain
 import shamir
@@ -89,8 +89,7 @@ def prove(owner):
         owner.expect(say(key))
         owner.expect(say("proof.passphrase.then"))
         owner.answer(say("make.failed.again"), "t")
-    if say("make.done") in owner.emulator.all_seen():
-        raise Failed("the backup is said to be made before the passphrase is right")
+    owner.lacks(say("make.done"), "the backup is said to be made before the passphrase is right")
     owner.answer(say("passphrase.ask"), PASSPHRASE)
 
 
@@ -164,8 +163,7 @@ def type_back(owner, papers):
 
 def check_replace():
     """A paper that may be in other hands, plans that don't fit, and papers that aren't determined."""
-    with Owner() as owner:
-        owner.prepare()
+    with started() as owner:
         owner.answer(MENU, "replace")
         owner.wait(say("replace.how"))
         owner.expect("first try 'Read a damaged paper' (repair)")
@@ -293,8 +291,7 @@ def check_wrong_plan():
 def check_back():
     """From each of the first questions, the owner goes back to the one before, and at last to the tasks."""
     secret, plan, wallet = say("new.secret"), say("new.plan.choose"), say("new.wallet")
-    with Owner() as owner:
-        owner.prepare()
+    with started() as owner:
         owner.answer(MENU, "1")
         owner.answer(plan, "b")
         owner.answer(MENU, "new")
@@ -352,8 +349,7 @@ def check_spaced():
 def check_full():
     """What is typed where the screen is full is the answer to the question that follows. An arrow is no answer."""
     for keys, rows, columns in [(["2\n"], 20, 80), (["\x1b[B", "2", "\n"], 20, 80), (["2", "\n", "\n"], 16, 40), (["\n", "3of5\n"], 16, 40)]:
-        with Owner("new", rows=rows, columns=columns) as owner:
-            owner.prepare()
+        with started("new", rows=rows, columns=columns) as owner:
             owner.wait_full()
             for at, key in enumerate(keys):
                 owner.type(key)

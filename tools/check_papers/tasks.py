@@ -1,4 +1,5 @@
 """Each task from its start to its end, as an owner goes through it. The values that must be shown are from outside (tools/samples.py)."""
+import contextlib
 import re
 
 from hands import Failed, Session, counted, say
@@ -103,6 +104,19 @@ class Owner(Session):
             raise Failed(f"{self.answers} answers and {self.keys} keys for {self.count} words: {self.prompts}")
 
 
+@contextlib.contextmanager
+def started(*words, **how):
+    """Starts the program with these words, and goes on to its first question."""
+    with Owner(*words, **how) as owner:
+        owner.prepare()
+        yield owner
+
+
+def end_by_keys(owner):
+    owner.type("\x03")
+    owner.end(130)
+
+
 def paper_prompt(number):
     return say("entry.paper.first") if number == 1 else say("entry.paper", number=number)
 
@@ -145,16 +159,14 @@ def make(owner, passphrase, plan, secret=None, known=""):
 
 
 def check_new(see):
-    with Owner("new", "2/3of5,1of1") as owner:
-        owner.prepare()
+    with started("new", "2/3of5,1of1") as owner:
         papers, noted = make(owner, PASSPHRASE, "2/3of5,1of1")
         owner.within(15)
     return papers, noted
 
 
 def check_check(papers, noted):
-    with Owner("check") as owner:
-        owner.prepare()
+    with started("check") as owner:
         owner.collect(papers)
         owner.passphrase(PASSPHRASE, noted)
         owner.wait(say("next.good"))
@@ -165,8 +177,7 @@ def check_check(papers, noted):
 
 
 def check_recover(papers, noted):
-    with Owner("recover") as owner:
-        owner.prepare()
+    with started("recover") as owner:
         owner.collect([papers[1], papers[5], papers[3], papers[4]])
         owner.passphrase(PASSPHRASE, noted)
         owner.reply(f"{say('recover.show')} (y/n)", "y")
@@ -185,8 +196,7 @@ def check_recover(papers, noted):
 
 def check_replace(papers, noted):
     lost, rest = papers[1], [papers[at] for at in (0, 2, 4, 5)]
-    with Owner("replace") as owner:
-        owner.prepare()
+    with started("replace") as owner:
         owner.reply(say("replace.how"), "1")
         owner.collect(rest)
         owner.wait(say("replace.choose"))
@@ -228,8 +238,7 @@ def check_change(papers, noted):
     """The papers of an extendable backup give others, by another plan. For each passphrase, these give the secret that the old ones give,
     which never shows."""
     old = [papers[at] for at in (1, 2, 4, 5)]
-    with Owner("change") as owner:
-        owner.prepare()
+    with started("change") as owner:
         owner.collect(old)
         new = change(owner, "2of3")
         owner.passphrase(PASSPHRASE, noted)
@@ -254,8 +263,7 @@ def check_changed(owner, old, new, plan, extendable, passphrase=PASSPHRASE):
 
 def check_repair(papers, noted):
     words = papers[0].split()
-    with Owner("repair") as owner:
-        owner.prepare()
+    with started("repair") as owner:
         owner.answer(say("damaged.ask"), with_words(papers[0], {4: "?", 10: words[9][:2] + "?"}))
         owner.wait(say("damaged.menu"))
         owner.expect(say("damaged.one", name="0.0"))
@@ -274,8 +282,7 @@ def check_repair(papers, noted):
 
 def check_what(papers, noted):
     """One paper says what it is, by the plain reading, and asks for nothing else. The flag and the other papers that it needs are told."""
-    with Owner("what") as owner:
-        owner.prepare()
+    with started("what") as owner:
         for line in (papers[0], papers[5], SOUND_PAPER):
             owner.forget()
             owner.type_paper(say("what.ask"), line)
@@ -286,8 +293,12 @@ def check_what(papers, noted):
         owner.end(0)
 
 
+# What is done with the papers of a new backup, and its fingerprint.
+TASKS = [check_check, check_recover, check_replace, check_change, check_repair, check_what]
+
+
 def check(see):
     """Goes through all tasks with one new backup."""
     papers, noted = check_new(see)
-    for task in (check_check, check_recover, check_replace, check_change, check_repair, check_what):
+    for task in TASKS:
         task(papers, noted)
