@@ -127,7 +127,7 @@ def check_papers_of(lines, plan, extendable, exponent, words=20):
             raise Failed(f"thresholds, flag, exponent and words of paper {name} of {plan} are {shown}, and not {wanted}")
 
 
-def check_renewed(old, new, plan, extendable, passphrase=PASSPHRASE):
+def check_backups(old, new, plan, extendable, passphrase=PASSPHRASE):
     """Checks the new papers of a changed plan: they have another identifier than the old ones, and their exponent and length. Each quorum of them
     gives the old secret, with each passphrase if both backups are extendable, and else with this one alone."""
     first = plain.parse(old[0].encode())

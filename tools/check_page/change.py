@@ -6,7 +6,7 @@ from browsers import Failed
 from choices import DRAWN, FOREKNOWN, PHONE, check_green
 from long_drill import check_bar
 from refusals import said
-from samples import FINGERPRINT, PASSPHRASE, SECRET, THREE_GROUPS, changed, check_renewed, fingerprint_of, name_of, papers_of
+from samples import FINGERPRINT, PASSPHRASE, SECRET, THREE_GROUPS, changed, check_backups, fingerprint_of, name_of, papers_of
 from tasks import answer_passphrase, begin, begin_replace, clear, drill, end, paste, read_paper, take_all
 from texts import counted, say
 
@@ -108,7 +108,7 @@ def check_extendable(page, see):
     pictures(page, see, "the new plan")
     page.push(say("continue"))
     new = write(page, see, old, is_checked=True)
-    check_renewed([old[0], old[1], old[3]], new, "3of5", 1)
+    check_backups([old[0], old[1], old[3]], new, "3of5", 1)
     # No wallet and no passphrase was asked for.
     page.wait_text(say("step", at=5, count=6))
     pictures(page, see, "what was noted")
@@ -134,7 +134,7 @@ def check_bare(page, see):
         start(page, [old[3], old[4]])
         page.push(say("continue"))
         new = write(page, see, old)
-        check_renewed([old[3], old[4]], new, "2of3", 1)
+        check_backups([old[3], old[4]], new, "2of3", 1)
         if passphrase is None:
             # What was typed before isn't taken.
             drill(page, "TREZOr", FINGERPRINT)
@@ -174,7 +174,7 @@ def check_renewed(page, see):
             page.fill(say("passphrase.label"), PASSPHRASE)
             page.push(say("continue"))
         new = write(page, see, old)
-        check_renewed(old, new, "2of3", int(wallet == "flag"))
+        check_backups(old, new, "2of3", int(wallet == "flag"))
         if not noted:
             drill(page, "TREZOr", None)
             page.wait_title(say("change.unproved"))
@@ -287,7 +287,7 @@ def check_identifier(page, _):
             page.push(say("continue"))
             answer_passphrase(page, PASSPHRASE, FINGERPRINT)
         new = write(page, lambda _: None, lines)
-        check_renewed(lines, new, "2of3", share["extendable"])
+        check_backups(lines, new, "2of3", share["extendable"])
         if plain.parse(new[0].encode())["id"] != int.from_bytes(DRAWN[:2], "big"):
             raise Failed("the random bytes that were to be drawn weren't")
         clear(page, is_asked=True)

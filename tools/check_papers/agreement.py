@@ -5,7 +5,7 @@ import random
 import re
 
 from hands import SEED, Failed, counted, say
-from tasks import Owner, change, check_changed, end_by_keys, make, paper_prompt, started
+from tasks import change, check_changed, end_by_keys, make, paper_prompt, started
 
 import plain
 from samples import PLANS, PROGRAM, Generated, changed, data_of, name_of
@@ -37,7 +37,6 @@ def typed(chance, line):
 
 
 def collect(owner, case, papers):
-    owner.prepare()
     for number, line in enumerate(papers, 1):
         owner.answer(paper_prompt(number), typed(case.source, line))
         owner.wait(paper_prompt(number + 1))
@@ -75,7 +74,7 @@ def expected_verdict(case, lines):
 def compare_check(case):
     papers = some(case)
     output, message, status = case.told(["drill", "--fingerprint"], data_of(papers))
-    with Owner("check") as owner:
+    with started("check") as owner:
         collect(owner, case, papers)
         if status == 1 and not output:
             return expect_too_few(owner, case, papers)
@@ -88,7 +87,7 @@ def compare_check(case):
 def compare_recover(case):
     papers = some(case)
     output, message, status = case.told(["recover"], data_of(papers))
-    with Owner("recover") as owner:
+    with started("recover") as owner:
         collect(owner, case, papers)
         if " 30 " in message:
             return expect_too_few(owner, case, papers)
@@ -115,11 +114,8 @@ def compare_replace(case):
     output, message, status = case.told(["reissue", case.plan, name_of(lost)], data_of(rest))
     groups, group = re.findall(r"(\d+)of", case.plan), int(name_of(lost).split(".")[0])
     choose = say("replace.choose" if len(groups) > 1 else "replace.choose.only")
-    with Owner("replace") as owner:
-        owner.wait(say("safety.go"))
-        owner.answer(say("safety.go"), "")
+    with started("replace") as owner:
         owner.answer(say("replace.how"), "1")
-        owner.prepare = lambda: None
         collect(owner, case, rest)
         if owner.wait(say("more.papers"), choose) == say("more.papers"):
             if status == 0:
@@ -143,7 +139,7 @@ def compare_change(case):
     extendable."""
     plan, is_extendable = case.source.choice(PLANS), bool(plain.parse(case.papers[0].encode())["extendable"])
     old = case.source.sample(case.papers, len(case.papers))
-    with Owner("change") as owner:
+    with started("change") as owner:
         collect(owner, case, old)
         if not is_extendable:
             owner.passphrase(case.passphrase, case.noted)

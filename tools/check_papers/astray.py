@@ -4,7 +4,7 @@ import os
 
 from hands import END, Failed, counted, say
 from refusals import NUMBERED, word_prompt
-from slips import made, sure
+from slips import sure
 from tasks import SIGN, end_by_keys, paper_prompt, started
 
 from samples import FINGERPRINT, PASSPHRASE, SECRET, SOUND_PAPER, THREE_GROUPS, changed, fingerprint_of, name_of, named, papers_of, swapped, with_words
@@ -212,7 +212,8 @@ def check_without():
         owner.wait(say("new.plan.choose"))
         owner.expect("This isn't a plan. Plans are typed so: 2of3")
         owner.answer(say("new.plan.choose"), "1of1")
-        made(owner)
+        owner.settle()
+        owner.draw()
         line = owner.written()[0]
         owner.answer(say("screen.next"), "")
         owner.wait(say("back.ask", name="0.0"))
@@ -320,7 +321,8 @@ def check_lost():
 def check_unsaid():
     """What a terminal that can't be cleared does, a passphrase that wasn't typed, and a paper of another backup."""
     with started("new", "1of1", TERM="dumb") as owner:
-        made(owner)
+        owner.settle()
+        owner.draw()
         if b"cleared then" in owner.raw:
             raise Failed("words are said to be cleared that stay")
         end_by_keys(owner)
@@ -356,7 +358,8 @@ def check_line():
 def check_size():
     """A terminal that gets another size shows a paper anew, and any other screen as it was."""
     with started("new", "1of1", columns=80, rows=24) as owner:
-        words = made(owner)
+        owner.settle()
+        words = owner.draw()
         for columns, rows in [(40, 30), (80, 24)]:
             owner.resize(columns, rows)
             owner.wait(say("new.write"))

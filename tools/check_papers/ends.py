@@ -9,7 +9,7 @@ import sys
 import termios
 
 from hands import END, PATIENCE, Failed, Interrupted, environment, habits, say
-from tasks import TASKS, Owner, check_new, end_by_keys, paper_prompt, started
+from tasks import TASKS, check_new, end_by_keys, paper_prompt, started
 
 import plain
 from samples import FINGERPRINT, PASSPHRASE, THREE_GROUPS, name_of, with_words
@@ -100,13 +100,18 @@ def stop(owner):
         owner.answer(f"{say('work.sure')} (y/n)", answer)
 
 
+def settle_slow(owner, exponent):
+    """Takes the plan, the wallet and a high exponent for a new secret."""
+    owner.settle()
+    owner.answer(say("new.secret"), "m")
+    owner.answer(say("new.exponent"), exponent)
+    owner.answer("Is that right? (y/n)", "y")
+
+
 def check_work():
     """Ctrl-C while the library works for long, and the key that stops that."""
     with started("new", "2of3") as owner:
-        owner.settle()
-        owner.answer(say("new.secret"), "m")
-        owner.answer(say("new.exponent"), "15")
-        owner.answer("Is that right? (y/n)", "y")
+        settle_slow(owner, "15")
         owner.answer(say("new.secret"), "1")
         owner.answer(say("new.passphrase"), "TREZOR")
         owner.answer(say("new.passphrase.again"), "TREZOR")
@@ -146,11 +151,8 @@ def check_unproved():
     """A new backup whose drill was stopped is no finished one, and the program says so at its end."""
     # The drill takes ten times as long as the making.
     with started("new", "3of5") as owner:
-        owner.settle()
-        owner.answer(say("new.secret"), "m")
-        owner.answer(say("new.exponent"), "8")
-        owner.answer("Is that right? (y/n)", "y")
-        first_paper(owner, settles=False)
+        settle_slow(owner, "8")
+        owner.draw(PASSPHRASE)
         papers = owner.written()
         owner.answer(say("screen.next"), "")
         for line in papers:
@@ -269,21 +271,10 @@ def leave(owner, keys, status, said, is_asked=True):
         raise Failed(f"the program asked before it ended: {owner.was_asked}")
 
 
-def first_paper(owner, settles=True):
-    """Makes a backup, and returns the first paper that is shown."""
-    if settles:
-        owner.settle()
-    owner.answer(say("new.secret"), "")
-    owner.answer(say("new.passphrase"), PASSPHRASE)
-    owner.answer(say("new.passphrase.again"), PASSPHRASE)
-    owner.wait(say("new.write"))
-    return owner.words()
-
-
 def made_until(owner, prompt):
     """Makes a backup of one paper, up to this question. What is typed of it stays, if the owner doesn't end."""
-    owner.prepare()
-    line = first_paper(owner)
+    owner.settle()
+    line = owner.draw(PASSPHRASE)
     for ask, typed in [(say("new.write"), ""), (say("screen.next"), ""), (say("back.ask", name="0.0"), line), (say("noted.done"), ""), (say("screen.end"), "")]:
         owner.wait(ask)
         if ask == prompt:
@@ -306,23 +297,23 @@ def made_until(owner, prompt):
 def check_written():
     """Once a paper was shown to be written, Ctrl-C and Ctrl-D ask, and the program says what the papers are that were written."""
     for prompt in (say("new.write"), say("screen.next"), say("back.ask", name="0.0")):
-        with Owner("new", "1of1") as owner:
+        with started("new", "1of1") as owner:
             made_until(owner, prompt)
             stay(owner, "\x03", prompt)
             stay(owner, "\x04", prompt)
             leave(owner, "\x03", 130, "ended.unfinished")
-    with Owner("new", "1of1") as owner:
+    with started("new", "1of1") as owner:
         made_until(owner, say("noted.done"))
         leave(owner, "\x04", 130, "ended.unfinished")
-    with Owner("new", "1of1") as owner:
+    with started("new", "1of1") as owner:
         made_until(owner, say("screen.end"))
         leave(owner, "\x03", 130, "ended.made", False)
-    with Owner("new", "1of1") as owner:
+    with started("new", "1of1") as owner:
         made_until(owner, say("new.write"))
         owner.type("\x03")
         owner.wait(END)
         leave(owner, "\x03", 130, "ended.unfinished", False)
-    with Owner("new", "1of1") as owner:
+    with started("new", "1of1") as owner:
         made_until(owner, say("new.write"))
         owner.send(signal.SIGTERM)
         owner.end(-signal.SIGTERM, "ended.unfinished")
@@ -356,11 +347,8 @@ def check_written_again():
 def check_held_drill():
     """Ctrl-C while the drill of a new backup runs: the drill goes on if the owner stays."""
     with started("new", "1of1") as owner:
-        owner.settle()
-        owner.answer(say("new.secret"), "m")
-        owner.answer(say("new.exponent"), "8")
-        owner.answer("Is that right? (y/n)", "y")
-        line = first_paper(owner, settles=False)
+        settle_slow(owner, "8")
+        line = owner.draw(PASSPHRASE)
         owner.answer(say("new.write"), "")
         owner.answer(say("screen.next"), "")
         owner.answer(say("back.ask", name="0.0"), line)

@@ -1,7 +1,6 @@
 """Papers that are pasted at once: each is judged, and nothing is dropped without a word."""
 from hands import END, Failed, counted, say
 from refusals import rows_of, word_prompt
-from slips import made
 from tasks import SIGN, Owner, end_by_keys, paper_prompt, started
 
 from samples import changed, name_of, named, opening, papers_of, with_words
@@ -109,7 +108,8 @@ def check_dropped():
 def check_back():
     """All papers are pasted where the first one is typed back: only that is taken, and the next screen says so too."""
     with started("new", "2of3") as owner:
-        made(owner)
+        owner.settle()
+        owner.draw()
         papers = owner.written()
         owner.answer(say("screen.next"), "")
         owner.wait(say("back.ask", name="0.0"))

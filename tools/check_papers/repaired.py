@@ -2,7 +2,7 @@
 from astray import PLAN
 from hands import say
 from refusals import NUMBERED, word_prompt
-from slips import sure
+from slips import sure, write_anew
 from tasks import SIGN, end_by_keys, paper_prompt, started
 
 from samples import FINGERPRINT, PASSPHRASE, SOUND_PAPER, THREE_GROUPS, changed, fingerprint_of, papers_of, swapped, with_words
@@ -132,11 +132,7 @@ def check_untried():
     """A repaired paper that is in no quorum: nothing says that it's right, and the damaged one is to be kept."""
     papers = papers_of("1/2of3,2of3")
     with started("repair") as owner:
-        owner.answer(say("damaged.ask"), with_words(papers[3], {6: "?"}))
-        owner.answer(say("damaged.menu"), "w")
-        owner.answer(sure("1.0"), "y")
-        owner.answer(say("new.write"), "")
-        owner.type_paper(say("back.ask", name="1.0"), papers[3])
+        write_anew(owner, papers[3])
         for number, line in enumerate(papers[:2], 2):
             owner.type_paper(paper_prompt(number), line)
         owner.answer(paper_prompt(4), "")
@@ -154,11 +150,7 @@ def check_taken_out():
     it is typed once more, it does."""
     papers = papers_of("2of3")
     with started("repair") as owner:
-        owner.answer(say("damaged.ask"), with_words(papers[0], {6: "?"}))
-        owner.answer(say("damaged.menu"), "w")
-        owner.answer(sure("0.0"), "y")
-        owner.answer(say("new.write"), "")
-        owner.type_paper(say("back.ask", name="0.0"), papers[0])
+        write_anew(owner, papers[0])
         owner.answer(paper_prompt(2), f"{SIGN}0.0")
         owner.collect(papers[1:])
         owner.passphrase("", fingerprint_of(papers, ""))

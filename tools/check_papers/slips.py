@@ -17,6 +17,15 @@ def type_damaged(owner, number, line):
     owner.answer(sure(name_of(line)), "y")
 
 
+def write_anew(owner, line):
+    """Reads a paper of which one word can't be read, writes it anew, and types it back."""
+    owner.answer(say("damaged.ask"), with_words(line, {6: "?"}))
+    owner.answer(say("damaged.menu"), "w")
+    owner.answer(sure(name_of(line)), "y")
+    owner.answer(say("new.write"), "")
+    owner.type_paper(say("back.ask", name=name_of(line)), line)
+
+
 def check_damaged():
     """Papers that can't be read in full are named at the end of a check and of a recovery, and not once they are written anew."""
     names = [name_of(line) for line in THREE_GROUPS]
@@ -44,11 +53,7 @@ def check_damaged():
         owner.expect(say("damaged.anew.one", names=names[4]))
         end_by_keys(owner)
     with started("repair") as owner:
-        owner.answer(say("damaged.ask"), with_words(THREE_GROUPS[0], {8: "?"}))
-        owner.answer(say("damaged.menu"), "w")
-        owner.answer(sure(names[0]), "y")
-        owner.answer(say("new.write"), "")
-        owner.type_paper(say("back.ask", name=names[0]), THREE_GROUPS[0])
+        write_anew(owner, THREE_GROUPS[0])
         for number, line in enumerate(THREE_GROUPS[1:4], 2):
             owner.type_paper(paper_prompt(number), line)
         owner.answer(paper_prompt(5), "")
@@ -116,16 +121,6 @@ def check_twice():
         end_by_keys(owner)
 
 
-def made(owner):
-    """Makes a backup without a passphrase, up to the first paper, and returns its words."""
-    owner.settle()
-    owner.answer(say("new.secret"), "")
-    owner.answer(say("new.passphrase"), "")
-    owner.answer(f"{say('new.passphrase.none')} {say('screen.yes.back')}", "y")
-    owner.wait(owner.question("new.write"))
-    return owner.words()
-
-
 def see_again(owner, prompt, words):
     """Lets a paper be shown again from a question, which then comes again."""
     owner.answer(prompt, "")
@@ -141,7 +136,8 @@ def check_written_wrongly():
     typed while a paper is shown clear nothing."""
     back, numbered = say("back.ask", name="0.0"), say("entry.numbered.back", sign=SIGN)
     with started("new", "1of1") as owner:
-        line = made(owner)
+        owner.settle()
+        line = owner.draw()
         owner.answer(say("new.write"), line)
         owner.wait(say("new.write"))
         owner.expect(say("new.write.alone"))

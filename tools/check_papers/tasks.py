@@ -4,7 +4,7 @@ import re
 
 from hands import Failed, Session, counted, say
 
-from samples import PASSPHRASE, SOUND_PAPER, check_papers_of, check_renewed, fingerprint_of, name_of, names_of, said_kind, secret_of, with_words
+from samples import PASSPHRASE, SOUND_PAPER, check_papers_of, check_backups, fingerprint_of, name_of, names_of, said_kind, secret_of, with_words
 from shamir.papers.screen import BACK
 
 SIGN = "-"
@@ -41,6 +41,17 @@ class Owner(Session):
             self.reply(say("new.plan.sure"), "u")
         self.reply(say("new.wallet"), wallet)
         self.reply(say("new.words"), "")
+
+    def draw(self, passphrase=""):
+        """Takes a new secret, and this passphrase. Returns the words of the first paper."""
+        self.answer(say("new.secret"), "")
+        self.answer(say("new.passphrase"), passphrase)
+        if passphrase:
+            self.answer(say("new.passphrase.again"), passphrase)
+        else:
+            self.answer(f"{say('new.passphrase.none')} {say('screen.yes.back')}", "y")
+        self.wait(self.question("new.write"))
+        return self.words()
 
     def prove(self, noted, passphrase):
         """Types what was noted, as the program asks before it says that a backup is made."""
@@ -255,7 +266,7 @@ def check_change(papers, noted):
 
 def check_changed(owner, old, new, plan, extendable, passphrase=PASSPHRASE):
     """Checks new papers beside the old ones, and that no secret was shown."""
-    check_renewed(old, new, plan, extendable, passphrase)
+    check_backups(old, new, plan, extendable, passphrase)
     for tried in (passphrase, "", "another"):
         if secret_of(old, tried) in "".join(owner.raw.decode().split()):
             raise Failed("the secret is shown")
