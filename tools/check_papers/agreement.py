@@ -53,8 +53,7 @@ def expect_too_few(owner, case, papers):
         owner.expect(say("status.here", names=names.replace("+", ", ")))
         if int(members) < int(threshold):
             owner.expect(say("status.missing", more=counted(int(threshold) - int(members), "paper")))
-    owner.answer(say("more.papers"), "e")
-    owner.end(0)
+    owner.finish(say("more.papers"))
 
 
 def expected_verdict(case, lines):

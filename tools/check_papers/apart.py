@@ -48,9 +48,7 @@ def check_first():
 def check_each():
     """Papers of two backups are enough. Each is recovered as if the others weren't there. Too few of one are told as such."""
     with started("recover") as owner:
-        for number, line in enumerate([SOUND_PAPER, *THREE_GROUPS[3:], TWO[0]], 1):
-            owner.type_paper(paper_prompt(number), line)
-        owner.answer(paper_prompt(5), "")
+        owner.collect([SOUND_PAPER, *THREE_GROUPS[3:], TWO[0]])
         for number, papers in [("1", [SOUND_PAPER]), ("2", THREE_GROUPS[3:])]:
             owner.answer(CHOOSE, number)
             owner.passphrase(PASSPHRASE, fingerprint_of(papers, PASSPHRASE))
@@ -64,8 +62,7 @@ def check_each():
         owner.wait(say("more.papers"))
         owner.expect(say("recover.too_few"))
         owner.expect(say("left.backup.many", names="1.0, 2.0", begin=opening(THREE_GROUPS[3])))
-        owner.answer(say("more.papers"), "e")
-        owner.end(0)
+        owner.finish(say("more.papers"))
 
 
 def check_names():

@@ -48,8 +48,7 @@ def check_left_out():
                 number = 7 - left
                 owner.type_paper(paper_prompt(number), more)
                 owner.reply(paper_prompt(number + 1), "")
-        owner.answer(say("next.good"), "e")
-        owner.end(0)
+        owner.finish(say("next.good"))
 
 
 def check_refused():
@@ -58,8 +57,7 @@ def check_refused():
         owner.collect([THREE_GROUPS[3]])
         owner.answer(say("more.papers"), "")
         owner.type_paper(paper_prompt(2), changed(THREE_GROUPS[3], value=bytes.fromhex(SECRET)))
-        owner.type_paper(paper_prompt(2), THREE_GROUPS[4])
-        owner.reply(paper_prompt(3), "")
+        owner.collect([THREE_GROUPS[4]], 2)
         owner.passphrase(PASSPHRASE, FINGERPRINT)
         owner.wait(say("next.good"))
         owner.expect(say("check.done.left_out"))
@@ -138,8 +136,7 @@ def check_instead():
         owner.wait(say("replace.new.choose"))
         owner.expect("'Change the plan' (change) writes new papers from those that you have")
         owner.expect("or if you don't have enough of them to recover it. Then make a new wallet while the old one still works")
-        owner.answer(say("replace.new.choose"), "e")
-        owner.end(0)
+        owner.finish(say("replace.new.choose"))
 
 
 def check_letter():
@@ -178,8 +175,7 @@ def check_letter():
         owner.expect(say("make.note", said="this one paper recovers the secret", plan="1of1"))
         if b"TREZOR" in owner.raw:
             raise Failed("a passphrase shows that was typed in place of an answer")
-        owner.answer(say("screen.end"), "e")
-        owner.end(0)
+        owner.finish(say("screen.end"))
     if name_of(line) != "0.0" or fingerprint_of([line], "b") == fingerprint_of([line], ""):
         raise Failed("the passphrase isn't the letter")
     for task in ("check", "recover"):
@@ -193,8 +189,7 @@ def check_letter():
             owner.answer(say("noted.ask"), fingerprint_of(papers, "b"))
             if task == "recover":
                 owner.answer(f"{say('recover.show')} (y/n)", "n")
-            owner.answer(say("next.good"), "e")
-            owner.end(0)
+            owner.finish(say("next.good"))
 
 
 def check_without():
@@ -228,8 +223,7 @@ def check_without():
         owner.expect("This backup has no passphrase.")
         owner.expect("This paper alone recovers the secret, so keep it where nobody finds it.")
         owner.lacks("if there is one, in another place")
-        owner.answer(say("screen.end"), "e")
-        owner.end(0)
+        owner.finish(say("screen.end"))
 
 
 def check_end():
@@ -264,8 +258,7 @@ def check_end():
         owner.type("\x03")
         owner.wait(END)
         owner.answer(END, "n")
-        owner.answer(say("damaged.menu"), "e")
-        owner.end(0)
+        owner.finish(say("damaged.menu"))
 
 
 def check_back():
@@ -314,8 +307,7 @@ def check_lost():
         owner.passphrase("", fingerprint_of(papers[:3] + papers[5:], ""))
         owner.wait(say("next.good"))
         owner.expect(say("check.done.written"))
-        owner.answer(say("next.good"), "e")
-        owner.end(0)
+        owner.finish(say("next.good"))
 
 
 def check_unsaid():

@@ -42,8 +42,7 @@ def check_flagless():
             for key in ("change.same", "change.old.renewed", "change.restore"):
                 owner.expect(say(key))
             owner.lacks(say("change.unnoted"))
-            owner.answer(say("screen.end"), "e")
-            owner.end(0)
+            owner.finish(say("screen.end"))
             check_changed(owner, old, new, "2of3", flag)
 
 
@@ -62,13 +61,11 @@ def check_unnoted():
             owner.expect(say(key))
             owner.expect(say("change.done" if is_extendable else "change.done.unproved"))
             owner.lacks("[ok]")
-            owner.answer(say("screen.end"), "e")
-            owner.end(0)
+            owner.finish(say("screen.end"))
             check_changed(owner, old, new, "1of1", 1)
     with started("change") as owner:
         type_damaged(owner, 1, THREE_GROUPS[3])
-        owner.type_paper(paper_prompt(2), THREE_GROUPS[4])
-        owner.answer(paper_prompt(3), "")
+        owner.collect([THREE_GROUPS[4]], 2)
         owner.passphrase(PASSPHRASE, "")
         change(owner, "1of1", "1")
         owner.passphrase(PASSPHRASE, "")
@@ -83,18 +80,14 @@ def check_refused():
     old, noted = backup("3of5", True)
     value = plain.parse(old[1].encode())["value"]
     with started("change") as owner:
-        owner.type_paper(paper_prompt(1), old[0])
-        owner.type_paper(paper_prompt(2), SOUND_PAPER)
-        owner.answer(paper_prompt(3), "")
+        owner.collect([old[0], SOUND_PAPER])
         owner.answer(say("backup.choose"), "1")
         owner.wait(say("more.papers"))
         owner.expect(say("recover.too_few"))
         owner.answer(say("more.papers"), "")
         owner.answer(paper_prompt(3), f"{SIGN}0.0")
         owner.answer(say("entry.drop.which", name="0.0"), "2")
-        owner.type_paper(paper_prompt(2), changed(old[1], value=value[::-1]))
-        owner.type_paper(paper_prompt(3), old[2])
-        owner.answer(paper_prompt(4), "")
+        owner.collect([changed(old[1], value=value[::-1]), old[2]], 2)
         owner.answer(say("new.plan.choose"), "2of3")
         owner.wait(say("next.good"))
         owner.expect(say("change.failed"))
@@ -102,8 +95,7 @@ def check_refused():
         owner.lacks(say("new.write"))
         owner.answer(say("next.good"), "p")
         owner.answer(paper_prompt(4), f"{SIGN}0.1")
-        owner.type_paper(paper_prompt(3), old[1])
-        owner.answer(paper_prompt(4), "")
+        owner.collect([old[1]], 3)
         change(owner, "2of3")
         # A fingerprint that the old papers don't give shows no agreement.
         owner.passphrase(PASSPHRASE, "01234567")
@@ -128,8 +120,7 @@ def check_wrong():
             owner.expect(say(key))
         owner.expect(say("verdict.suspects.one", names="0.2"))
         owner.lacks(say("change.done"))
-        owner.answer(AGAIN, "e")
-        owner.end(0, "closed.changing")
+        owner.finish(AGAIN, "closed.changing")
 
 
 def check_mark(owner):
@@ -177,8 +168,7 @@ def check_ways():
         owner.answer(ask, "")
         owner.answer(say("noted.ask"), noted)
         owner.answer(AGAIN, "")
-        owner.answer(AGAIN, "e")
-        owner.end(0, "closed.changing")
+        owner.finish(AGAIN, "closed.changing")
     old, _ = backup("2of3", True)
     with started("change") as owner:
         owner.collect(old[1:])

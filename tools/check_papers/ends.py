@@ -143,8 +143,7 @@ def check_stopped_drill():
         owner.expect(say("check.done.stopped"))
         owner.expect(say("drill.tried", tried=0, total=4))
         owner.expect(say("time.long", exponent=12, time="").split("about")[0])
-        owner.answer(say("next.again"), "e")
-        owner.end(0)
+        owner.finish(say("next.again"))
 
 
 def check_unproved():
@@ -163,8 +162,7 @@ def check_unproved():
         stop(owner)
         owner.wait(say("make.failed.again"))
         owner.expect(say("make.unproved"))
-        owner.answer(say("make.failed.again"), "e")
-        owner.end(0, "closed.unfinished")
+        owner.finish(say("make.failed.again"), "closed.unfinished")
 
 
 def check_two_signals():

@@ -258,8 +258,7 @@ def check_passphrases():
             owner.answer(say("next.good"), typed)
             owner.wait(say("next.good"))
             owner.expect(say("screen.answers", answers="e, p"))
-        owner.answer(say("next.good"), "e")
-        owner.end(0)
+        owner.finish(say("next.good"))
 
 
 def check_unnoted(owner):
@@ -304,16 +303,13 @@ def check_recover():
         owner.wait(say("more.papers"))
         owner.expect(say("recover.too_few"))
         owner.answer(say("more.papers"), "")
-        owner.type_paper(paper_prompt(2), changed(THREE_GROUPS[1], value=bytes(16)))
-        owner.type_paper(paper_prompt(3), THREE_GROUPS[3])
-        owner.reply(paper_prompt(4), "")
+        owner.collect([changed(THREE_GROUPS[1], value=bytes(16)), THREE_GROUPS[3]], 2)
         owner.passphrase(PASSPHRASE, FINGERPRINT)
         owner.wait(say("next.papers"))
         owner.expect(say("refused.51", first=0))
         owner.answer(say("next.papers"), "p")
         owner.answer(paper_prompt(4), f"{SIGN}{name_of(THREE_GROUPS[1])}")
-        owner.type_paper(paper_prompt(3), THREE_GROUPS[1])
-        owner.reply(paper_prompt(4), "")
+        owner.collect([THREE_GROUPS[1]], 3)
         owner.passphrase("TREZER", FINGERPRINT)
         owner.wait(say("next.again"))
         owner.expect(say("recover.done.other"))
@@ -323,8 +319,7 @@ def check_recover():
         owner.wait(say("next.unnoted"))
         owner.expect(FINGERPRINT)
         owner.expect(say("recover.done.unnoted"))
-        owner.answer(say("next.unnoted"), "e")
-        owner.end(0)
+        owner.finish(say("next.unnoted"))
 
 
 CHECKS = [

@@ -41,8 +41,7 @@ def check_read_later():
         owner.wait(say("next.good"))
         owner.expect(say("check.done.good"))
         owner.lacks("Write it anew")
-        owner.answer(say("next.good"), "e")
-        owner.end(0)
+        owner.finish(say("next.good"))
 
 
 def check_miswritten():
@@ -87,8 +86,7 @@ def check_impossible():
         owner.expect(told)
         owner.answer(say("damaged.menu.none"), "c")
         owner.answer(NUMBERED, SOUND_PAPER)
-        owner.answer(say("damaged.menu"), "e")
-        owner.end(0)
+        owner.finish(say("damaged.menu"))
     with started("check") as owner:
         owner.answer(paper_prompt(1), marks)
         owner.wait(NUMBERED)
@@ -116,16 +114,13 @@ def check_repaired():
         owner.wait(paper_prompt(2))
         owner.expect("Most likely paper 0.0 is wrong, of which words were found and not read.")
         owner.lacks("is of another backup, or forged")
-        for number, one in enumerate(THREE_GROUPS[1:4], 2):
-            owner.type_paper(paper_prompt(number), one)
-        owner.answer(paper_prompt(5), "")
+        owner.collect(THREE_GROUPS[1:4], 2)
         owner.passphrase(PASSPHRASE, FINGERPRINT)
         owner.wait(say("next.papers"))
         owner.expect(say("damaged.drill"))
         owner.expect(say("damaged.suspect.one", names="0.0"))
         owner.expect(say("damaged.keep"))
-        owner.answer(say("next.papers"), "e")
-        owner.end(0, "closed.repaired")
+        owner.finish(say("next.papers"), "closed.repaired")
 
 
 def check_untried():
@@ -133,16 +128,13 @@ def check_untried():
     papers = papers_of("1/2of3,2of3")
     with started("repair") as owner:
         write_anew(owner, papers[3])
-        for number, line in enumerate(papers[:2], 2):
-            owner.type_paper(paper_prompt(number), line)
-        owner.answer(paper_prompt(4), "")
+        owner.collect(papers[:2], 2)
         owner.passphrase("", fingerprint_of(papers[:2], ""))
         owner.wait(say("next.good"))
         owner.expect(say("check.done.left_out"))
         owner.expect(say("damaged.keep"))
         owner.lacks("is right: the drill gave your secret with it")
-        owner.answer(say("next.good"), "e")
-        owner.end(0, "closed.repaired")
+        owner.finish(say("next.good"), "closed.repaired")
 
 
 def check_taken_out():
@@ -163,8 +155,7 @@ def check_taken_out():
         owner.passphrase("", fingerprint_of(papers, ""))
         owner.wait(say("next.good"))
         owner.expect(say("damaged.right.one", names="0.0"))
-        owner.answer(say("next.good"), "e")
-        owner.end(0, "closed")
+        owner.finish(say("next.good"), "closed")
 
 
 CHECKS = [

@@ -54,9 +54,7 @@ def check_damaged():
         end_by_keys(owner)
     with started("repair") as owner:
         write_anew(owner, THREE_GROUPS[0])
-        for number, line in enumerate(THREE_GROUPS[1:4], 2):
-            owner.type_paper(paper_prompt(number), line)
-        owner.answer(paper_prompt(5), "")
+        owner.collect(THREE_GROUPS[1:4], 2)
         owner.passphrase(PASSPHRASE, FINGERPRINT)
         owner.wait(say("next.good"))
         owner.expect(say("damaged.right.one", names=names[0]))

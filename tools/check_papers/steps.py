@@ -66,8 +66,7 @@ def check_new():
         # The drill said it too, on the screen before.
         owner.forget()
         owner.expect(say("quorum.what"))
-        owner.answer(say("screen.end"), "e")
-        owner.end(0)
+        owner.finish(say("screen.end"))
         fields = plain.parse(papers[0].encode())
         if (fields["extendable"], fields["exponent"]) != (0, 0):
             raise Failed("the flag and the exponent that were asked for aren't in the papers")
@@ -172,24 +171,21 @@ def check_replace():
         owner.answer(say("replace.how"), "2")
         owner.wait(say("replace.new.choose"))
         owner.expect(say("replace.new.move"))
-        owner.answer(say("replace.new.choose"), "e")
-        owner.end(0)
+        owner.finish(say("replace.new.choose"))
     with started("replace") as owner:
         owner.answer(say("replace.how"), "1")
         owner.collect(THREE_GROUPS[:1])
         owner.wait(say("more.papers"))
         owner.expect(say("replace.none_yet"))
         owner.answer(say("more.papers"), "")
-        owner.type_paper(paper_prompt(2), THREE_GROUPS[1])
-        owner.reply(paper_prompt(3), "")
+        owner.collect([THREE_GROUPS[1]], 2)
         choose = say("replace.choose")
         owner.wait(choose)
         for name, key in [("0.2", "after"), ("1.0", "of_group"), ("2.0", "of_group")]:
             owner.expect(f"{name} {say(f'which.{key}', group=name[0])}")
         ask_names(owner)
         owner.answer(say("which.ask.needed", group=1), "b")
-        owner.type_paper(paper_prompt(3), THREE_GROUPS[3])
-        owner.answer(paper_prompt(4), "")
+        owner.collect([THREE_GROUPS[3]], 3)
         owner.answer(choose, "2.0")
         owner.answer(say("which.ask.needed", group=2), "1")
         owner.wait(say("new.write"))
@@ -265,8 +261,7 @@ def check_repair():
         owner.answer(word_prompt(5), "agen")
         owner.wait(menu)
         owner.expect(say("damaged.whole"))
-        owner.answer(menu, "e")
-        owner.end(0)
+        owner.finish(menu)
 
 
 def check_wrong_plan():

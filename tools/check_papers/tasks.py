@@ -88,11 +88,11 @@ class Owner(Session):
         if passphrase and not noted:
             self.hidden(say("new.passphrase.again"), passphrase)
 
-    def collect(self, lines):
-        """Types papers, and ends their typing."""
-        for number, line in enumerate(lines, 1):
+    def collect(self, lines, first=1):
+        """Types papers, of which the first has this number, and ends their typing."""
+        for number, line in enumerate(lines, first):
             self.type_paper(paper_prompt(number), line)
-        self.reply(paper_prompt(len(lines) + 1), "")
+        self.reply(paper_prompt(first + len(lines)), "")
 
     def written(self):
         """Reads the papers that are shown to be written down, until they are to be typed back."""
@@ -108,6 +108,11 @@ class Owner(Session):
         self.reply(say("screen.next"), "")
         for line in papers:
             self.type_paper(say("back.ask", name=name_of(line)), line)
+
+    def finish(self, prompt, said=""):
+        """Ends at a question that offers to end. `said` is the key of what the program must say then, if it matters."""
+        self.reply(prompt, "e")
+        self.end(0, said)
 
     def within(self, most):
         """Checks that no more was to be typed than an owner was promised: five keys a word, and so many answers."""
@@ -164,8 +169,7 @@ def make(owner, passphrase, plan, secret=None, known=""):
     else:
         owner.prove(found, passphrase)
     owner.expect(say("make.done"))
-    owner.reply(say("screen.end"), "e")
-    owner.end(0)
+    owner.finish(say("screen.end"))
     return papers, found
 
 
@@ -182,8 +186,7 @@ def check_check(papers, noted):
         owner.passphrase(PASSPHRASE, noted)
         owner.wait(say("next.good"))
         owner.expect(say("verdict.all.noted", quorums="10 quorums", fingerprint=noted))
-        owner.reply(say("next.good"), "e")
-        owner.end(0)
+        owner.finish(say("next.good"))
         owner.within(12)
 
 
@@ -200,8 +203,7 @@ def check_recover(papers, noted):
         owner.reply(owner.question("recover.clear"), "")
         owner.wait(say("next.good"))
         owner.expect(say("recover.next"))
-        owner.reply(say("next.good"), "e")
-        owner.end(0)
+        owner.finish(say("next.good"))
         owner.within(12)
 
 
@@ -224,8 +226,7 @@ def check_replace(papers, noted):
         owner.wait(say("next.good"))
         owner.expect(say("verdict.all.noted", quorums="4 quorums", fingerprint=noted))
         owner.expect(f"[ok] {say('replace.right.one', names='0.1')}")
-        owner.reply(say("next.good"), "e")
-        owner.end(0)
+        owner.finish(say("next.good"))
         owner.within(12)
 
 
@@ -258,8 +259,7 @@ def check_change(papers, noted):
         owner.expect(f"[ok] {say('verdict.all.noted.new', quorums='3 quorums', fingerprint=noted)} {say('change.same')}")
         owner.expect(say("change.old"))
         owner.expect(say("change.mixed"))
-        owner.reply(say("screen.end"), "e")
-        owner.end(0)
+        owner.finish(say("screen.end"))
         owner.within(13)
         check_changed(owner, old, new, "2of3", 1)
 
@@ -284,8 +284,7 @@ def check_repair(papers, noted):
         owner.reply(f"{say('damaged.sure', name='0.0')} (y/n)", "y")
         owner.reply(owner.question("new.write"), "")
         owner.type_paper(say("back.ask", name="0.0"), papers[0])
-        owner.type_paper(paper_prompt(2), papers[1])
-        owner.reply(paper_prompt(3), "")
+        owner.collect([papers[1]], 2)
         owner.reply(say("more.papers"), "e")
         owner.expect(say("damaged.too_few"))
         owner.end(0, "closed.repaired")

@@ -132,8 +132,7 @@ def check_memory_of_change(papers, noted, secret):
             left = look_for(owner, {**texts, **of_papers(old[1:]), **{f"new {what}": text for what, text in of_papers(new).items()}})
             if left:
                 raise Failed(f"after the plan was changed, the memory of the program still has {', '.join(left)}")
-            owner.reply(say("screen.end"), "e")
-            owner.end(0)
+            owner.finish(say("screen.end"))
 
 
 def check_memory_of_check(papers, noted, secret):
@@ -144,8 +143,7 @@ def check_memory_of_check(papers, noted, secret):
         left = look_for(owner, {"the passphrase": OWN_PASSPHRASE.encode(), "the digits of the secret": secret.encode()})
         if left:
             raise Failed(f"after a check, the memory of the program still has {', '.join(left)}")
-        owner.reply(say("next.good"), "e")
-        owner.end(0)
+        owner.finish(say("next.good"))
 
 
 def check_forbidden():
