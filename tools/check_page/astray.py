@@ -1,7 +1,7 @@
 """Where an owner who reads only the screen could go astray: papers that don't work, results that say too much, and what may be destroyed."""
 from looks import check_screen
 from samples import FINGERPRINT, PASSPHRASE, SOUND_PAPER, THREE_GROUPS, TWO, changed, fingerprint_of, name_of, named, opening, papers_of, swapped, with_words
-from tasks import answer_passphrase, begin, begin_replace, clear, drill, end, found_words, paste, read_paper, take, take_all, type_damaged, type_paper
+from tasks import answer_passphrase, begin, begin_replace, clear, drill, end, found_words, paste, read_paper, take, take_all, type_damaged, type_paper, write_anew
 from texts import counted, say
 
 
@@ -44,8 +44,7 @@ def check_left_out(page, see):
     paste(page, changed(papers[1], exponent=3))
     page.wait_text(say("refused.23"))
     page.push(say("entry.empty"))
-    page.go_to("textbox", say("entry.word", number=1))
-    page.type(" ".join(papers[2].split()[:12]) + " ")
+    page.fill(say("entry.word", number=1), " ".join(papers[2].split()[:12]) + " ")
     page.push(say("collect.end"))
     page.push(say("collect.unread.drop"))
     page.wait_title(say("recover.few"))
@@ -103,12 +102,6 @@ def check_repaired(page, see):
     end(page)
 
 
-def repair(page, line):
-    """Begins to read a damaged paper."""
-    begin(page, "damaged")
-    find_word(page, line)
-
-
 def check_untried(page, see):
     """Only a drill that has a repaired paper, and that gives the noted fingerprint, shows that the damaged one isn't needed any more."""
     papers = papers_of("1/2of3,2of3")
@@ -120,7 +113,8 @@ def check_untried(page, see):
         (papers[3], papers[4:5], None, "check.done.same", [keep], [right]),
         (papers[3], papers[4:5], noted, "check.done.good", [right], [keep]),
     ]:
-        repair(page, line)
+        begin(page, "damaged")
+        write_anew(page, line)
         take_all(page, others)
         page.wait_title(say("damaged.passphrase"))
         drill(page, None, fingerprint)
@@ -245,19 +239,6 @@ def check_apart(page, see):
     end(page)
 
 
-def find_word(page, line):
-    """Types what can be read of a paper of which one word is open, writes it anew, and types it back."""
-    name = name_of(line)
-    page.wait_title(say("damaged.title"))
-    paste(page, with_words(line, {6: "?"}))
-    page.push(say("damaged.write", name=name))
-    page.wait_title(say("paper.title", name=name))
-    page.push(say("paper.written"))
-    page.wait_title(say("back.title", name=name))
-    paste(page, line)
-    page.wait_title(say("damaged.check.title"))
-
-
 def check_several_repaired(page, see):
     """Several damaged papers of a backup: each is blamed or called right by what the drill shows of it. One that can't be of their backup isn't
     offered, and one of another backup is told."""
@@ -268,9 +249,9 @@ def check_several_repaired(page, see):
         (wrong, "check.done.some", [say("damaged.suspect.one", names="0.2"), say("damaged.keep")]),
     ]:
         begin(page, "damaged")
-        find_word(page, papers[1])
+        write_anew(page, papers[1])
         page.push(say("damaged.another"))
-        find_word(page, third)
+        write_anew(page, third)
         page.wait_text(say("collect.row.repaired", name="0.1", words=20))
         page.wait_text(say("collect.row.repaired", name="0.2", words=20))
         take(page, papers[:1])

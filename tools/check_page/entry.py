@@ -11,16 +11,14 @@ def check_unread(page, see):
     begin(page, "check")
     page.push(say("entry.read"))
     page.wait_text(say("entry.nothing"))
-    page.go_to("textbox", say("entry.word", number=1))
-    page.type("du")
+    page.fill(say("entry.word", number=1), "du")
     page.wait(lambda: say("entry.nothing") not in page.text(), "the end of an answer to empty fields")
     page.press("Backspace", "Backspace")
     paste(page, TWO[0])
     page.wait_text(say("status.not_enough", needed=counted(2, "paper"), here=1))
     page.lacks("roup", f"the page speaks of groups, and the backup has one: {page.text()!r}")
     for what, typed in [("a refused paper", BAD_CHECKSUM), ("half a paper", " ".join(TWO[1].split()[:9]))]:
-        page.go_to("textbox", say("entry.word", number=1))
-        page.type(typed + " ")
+        page.fill(say("entry.word", number=1), typed + " ")
         if what == "a refused paper":
             page.wait_text(said(18, first=20))
         page.push(say("collect.end"))
@@ -80,8 +78,7 @@ def check_mistyped(page, see):
     words = SOUND_PAPER.split()
     begin(page, "check")
     for key in (" ", "Enter", "Tab"):
-        page.go_to("textbox", say("entry.word", number=1))
-        page.type(" ".join(words[:7]) + (" soluton" if key != "Tab" else " solutios") + (key if key == " " else ""))
+        page.fill(say("entry.word", number=1), " ".join(words[:7]) + (" soluton" if key != "Tab" else " solutios") + (key if key == " " else ""))
         if key != " ":
             page.press(key)
         page.wait_text(say("entry.mistyped", number=8))
@@ -104,8 +101,7 @@ FOUR = "daughter necklace lyrics briefing funding network keyboard moment academ
 def check_guessed(page, see):
     """A word that can be read in two ways, between which only the typist's habit decides, is one to look at."""
     begin(page, "check")
-    page.go_to("textbox", say("entry.word", number=1))
-    page.type("".join(word[:4] for word in FOUR.split()))
+    page.fill(say("entry.word", number=1), "".join(word[:4] for word in FOUR.split()))
     page.wait_text(say("entry.guessed", number=10))
     typed = page.evaluate("[...document.querySelectorAll('.word input')].map((it) => it.value).join(' ')").strip()
     if not typed.startswith(FOUR):

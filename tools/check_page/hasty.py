@@ -2,9 +2,10 @@
 import time
 
 from browsers import Failed
+from long_drill import begin_long
 from looks import words_shown
 from samples import SOUND_PAPER, changed
-from tasks import answer_passphrase, begin, choose_wallet, clear, create, end, take_all
+from tasks import begin, choose_wallet, clear, create, end, take_all
 from texts import say
 
 # Lets what the page starts, or what it asks the worker for, come not at all, or only at `UNDO`, which ends this.
@@ -88,12 +89,6 @@ def check_late_words(page):
     if page.evaluate("document.activeElement === document.body"):
         raise Failed("the button that shows the words takes the focus with it")
     clear(page, is_asked=True)
-
-
-def begin_long(page):
-    """Begins a recovery that takes long."""
-    answer_passphrase(page, "TREZOR", None)
-    page.wait_text(say("time.long", exponent=14, time="@").split("@")[0])
 
 
 def check_stop(page, see):

@@ -4,7 +4,7 @@ import json
 
 from browsers import Failed
 from samples import FINGERPRINT, PASSPHRASE, SOUND_PAPER, THREE_GROUPS
-from tasks import answer_passphrase, begin, choose_wallet, clear, create, drill, end, paste, read_paper, take_all
+from tasks import answer_passphrase, begin, choose_wallet, clear, create, drill, end, paste, read_paper, take_all, write_anew
 from texts import say
 
 # Notes the title, the step and the buttons to press next of each screen, as it comes and as it changes.
@@ -67,10 +67,8 @@ def check_drill(page, title):
         raise Failed(f"the result of a drill is said {page.text().count(FINGERPRINT)} times")
 
 
-def make(page, see):
-    choose_wallet(page)
-    page.tick(say("passphrase.none"))
-    create(page)
+def write(page):
+    """Writes three papers down, and types them back. Each screen says which of them it has."""
     papers = []
     for number in (1, 2, 3):
         page.wait_title(say("paper.title", name=f"0.{number - 1}"))
@@ -81,6 +79,13 @@ def make(page, see):
     for number, line in enumerate(papers, 1):
         page.wait_text(say("paper.place", number=number, count=3))
         paste(page, line)
+
+
+def make(page, see):
+    choose_wallet(page)
+    page.tick(say("passphrase.none"))
+    create(page)
+    write(page)
     page.wait_title(say("noted.title"))
     noted = page.evaluate("document.querySelector('.fingerprint').textContent")
     page.push(say("noted.done"))
@@ -128,27 +133,13 @@ def change(page, see):
     page.push(say("continue"))
     answer_passphrase(page, PASSPHRASE, FINGERPRINT)
     page.push(say("forms.go"))
-    papers = []
-    for number in (1, 2, 3):
-        page.wait_text(say("paper.place", number=number, count=3))
-        papers.append(read_paper(page))
-        page.push(say("paper.written"))
-    page.push(say("continue"))
-    for number, line in enumerate(papers, 1):
-        page.wait_text(say("paper.place", number=number, count=3))
-        paste(page, line)
+    write(page)
     check_drill(page, "change.done")
     see("journey changed")
 
 
 def repair(page, see):
-    paste(page, SOUND_PAPER.replace("agency", "?"))
-    page.push(say("damaged.write", name="0.0"))
-    page.wait_title(say("paper.title", name="0.0"))
-    page.push(say("paper.written"))
-    page.wait_title(say("back.title", name="0.0"))
-    paste(page, SOUND_PAPER)
-    page.wait_title(say("damaged.check.title"))
+    write_anew(page, SOUND_PAPER)
     page.push(say("collect.end"))
     drill(page, PASSPHRASE, None)
     page.wait_title(say("check.done.same"))

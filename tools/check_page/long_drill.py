@@ -50,19 +50,23 @@ def check_bar(page):
     page.wait(lambda: page.evaluate(at) > first, "a bar that moves")
 
 
+def begin_long(page):
+    """Begins a recovery that takes long."""
+    answer_passphrase(page, "TREZOR", None)
+    page.wait_text(say("time.long", exponent=14, time="@").split("@")[0])
+
+
 def check_stop(page, see):
     """A recovery with a high exponent says how long it takes, and stops. The papers stay."""
     begin(page, "recover")
     take_all(page, [changed(SOUND_PAPER, exponent=14)])
-    answer_passphrase(page, "TREZOR", None)
-    page.wait_text(say("time.long", exponent=14, time="@").split("@")[0])
+    begin_long(page)
     check_bar(page)
     see("a long recovery")
     page.push(say("stop"))
     page.wait_text(say("recover.stopped"))
     page.push(say("again"))
-    answer_passphrase(page, "TREZOR", None)
-    page.wait_text(say("time.long", exponent=14, time="@").split("@")[0])
+    begin_long(page)
     clear(page)
 
 
@@ -70,8 +74,7 @@ def check_stop_drill(page, see):
     """A drill that is stopped before its first quorum says only that, and no verdict on the papers."""
     begin(page, "check")
     take_all(page, [changed(SOUND_PAPER, exponent=14)])
-    answer_passphrase(page, "TREZOR", None)
-    page.wait_text(say("time.long", exponent=14, time="@").split("@")[0])
+    begin_long(page)
     page.push(say("drill.start"))
     check_bar(page)
     page.push(say("stop"))

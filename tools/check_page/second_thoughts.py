@@ -46,8 +46,7 @@ def check_emptied(page, see):
         page.push(say("entry.undo"))
         page.wait(lambda: page.evaluate(WORDS).strip() == typed, "the words that were emptied")
         page.push(say("entry.empty"))
-        page.go_to("textbox", say("entry.word", number=1))
-        page.type("acid ")
+        page.fill(say("entry.word", number=1), "acid ")
         if say("entry.undo") in page.text() or page.evaluate(WORDS).strip() != "acid":
             raise Failed("words that were emptied can be brought back over others")
         clear(page)
@@ -56,8 +55,7 @@ def check_emptied(page, see):
 def check_offered(page, see):
     """While a word is typed, the words that begin so are offered, if they are few. A word that is none is told with those that are near."""
     begin(page, "check")
-    page.go_to("textbox", say("entry.word", number=1))
-    page.type("su")
+    page.fill(say("entry.word", number=1), "su")
     if page.evaluate(SHOWN):
         raise Failed(f"too many words are offered: {page.evaluate(SHOWN)}")
     page.type("b")

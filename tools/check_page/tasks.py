@@ -3,7 +3,7 @@
 The values that the page must show are from outside (tools/samples.py).
 """
 from browsers import Failed
-from samples import FINGERPRINT, PASSPHRASE, SECRET, SOUND_PAPER, THREE_GROUPS, check_papers_of, fingerprint_of, name_of, swappable, swapped
+from samples import FINGERPRINT, PASSPHRASE, SECRET, SOUND_PAPER, THREE_GROUPS, check_papers_of, fingerprint_of, name_of, swappable, swapped, with_words
 from texts import counted, say
 
 
@@ -323,6 +323,19 @@ def type_damaged(page, line):
     page.type(line + " ")
 
 
+def write_anew(page, line):
+    """Types what can be read of a paper of which one word is open, writes it anew, and types it back."""
+    name = name_of(line)
+    page.wait_title(say("damaged.title"))
+    paste(page, with_words(line, {6: "?"}))
+    page.push(say("damaged.write", name=name))
+    page.wait_title(say("paper.title", name=name))
+    page.push(say("paper.written"))
+    page.wait_title(say("back.title", name=name))
+    paste(page, line)
+    page.wait_title(say("damaged.check.title"))
+
+
 def found_words(page):
     """Returns the words that the page found, each after its number, a line for each paper that fits."""
     script = "[...document.querySelectorAll('.fit .rows')].map((it) => [...it.children].map((row) => row.innerText.replace(/\\s+/g, ' ').trim()).join(', ')).join('\\n')"
@@ -334,7 +347,7 @@ def check_damaged(page, see):
     words = THREE_GROUPS[1].split()
     begin(page, "damaged")
     see("damaged paper")
-    type_damaged(page, " ".join(words[:4] + ["?"] + words[5:11] + [words[11][:2] + "?"] + words[12:]))
+    type_damaged(page, with_words(THREE_GROUPS[1], {5: "?", 12: words[11][:2] + "?"}))
     page.wait_text(say("damaged.one", name="0.1"))
     wanted = f"{say('entry.word', number=5)} {words[4]}, {say('entry.word', number=12)} {words[11]}"
     page.wait(lambda: found_words(page) == wanted, f"the words {wanted!r}")
