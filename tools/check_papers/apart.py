@@ -1,7 +1,7 @@
 """Papers of several backups: they are kept apart, the first one isn't trusted, and the owner says which backup is meant."""
 from hands import say
 from slips import sure
-from tasks import SIGN, end_by_keys, paper_prompt, started
+from tasks import SIGN, end_by_keys, in_turn, paper_prompt, started
 
 from samples import FINGERPRINT, LONG, PASSPHRASE, SOUND_PAPER, THREE_GROUPS, TWO, changed, fingerprint_of, name_of, named, opening, with_words
 from shamir.papers.marks import said_count
@@ -147,8 +147,4 @@ def check_found():
 
 
 CHECKS = [check_first, check_each, check_names, check_counts, check_pasted, check_found]
-
-
-def check(see):
-    for one in CHECKS:
-        one()
+check = in_turn(CHECKS)

@@ -5,7 +5,7 @@ import os
 from hands import END, Failed, counted, say
 from refusals import NUMBERED, word_prompt
 from slips import sure
-from tasks import SIGN, end_by_keys, paper_prompt, started
+from tasks import SIGN, end_by_keys, in_turn, paper_prompt, started
 
 from samples import FINGERPRINT, PASSPHRASE, SECRET, SOUND_PAPER, THREE_GROUPS, changed, fingerprint_of, name_of, named, papers_of, swapped, with_words
 
@@ -392,8 +392,4 @@ CHECKS = [
     check_line,
     check_size,
 ]
-
-
-def check(see):
-    for one in CHECKS:
-        one()
+check = in_turn(CHECKS)

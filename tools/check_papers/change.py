@@ -1,7 +1,7 @@
 """The task 'change': old papers with and without the extendable flag, what is refused, the ways back, and how it ends."""
 from hands import END, Failed, say
 from slips import type_damaged
-from tasks import SIGN, change, check_changed, end_by_keys, paper_prompt, started
+from tasks import SIGN, change, check_changed, end_by_keys, in_turn, paper_prompt, started
 
 import plain
 from samples import PASSPHRASE, SOUND_PAPER, THREE_GROUPS, changed, fingerprint_of, name_of, papers_of
@@ -222,8 +222,4 @@ def check_lost():
 
 
 CHECKS = [check_flagless, check_unnoted, check_refused, check_wrong, check_ways, check_pasted, check_lost]
-
-
-def check(see):
-    for one in CHECKS:
-        one()
+check = in_turn(CHECKS)

@@ -1,7 +1,7 @@
 """Papers that are pasted at once: each is judged, and nothing is dropped without a word."""
 from hands import END, Failed, counted, say
 from refusals import rows_of, word_prompt
-from tasks import SIGN, Owner, end_by_keys, paper_prompt, started
+from tasks import SIGN, Owner, end_by_keys, in_turn, paper_prompt, started
 
 from samples import changed, name_of, named, opening, papers_of, with_words
 from shamir.papers.marks import said_count
@@ -233,8 +233,4 @@ def check_tab():
 
 
 CHECKS = [check_amid, check_amid_rest, check_early, check_tab, check_answers, check_many, check_misspelt, check_rows, check_elsewhere, check_dropped, check_back, check_cut]
-
-
-def check(see):
-    for one in CHECKS:
-        one()
+check = in_turn(CHECKS)

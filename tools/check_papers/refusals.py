@@ -1,6 +1,6 @@
 """What can be wrong with papers and passphrases, and what the program says and asks then."""
 from hands import Failed, counted, say
-from tasks import SIGN, end_by_keys, paper_prompt, started
+from tasks import SIGN, end_by_keys, in_turn, paper_prompt, started
 
 from samples import BAD_CHECKSUM, BAD_PADDING, BIP39, BIP39_LONG, EXCHANGED, FINGERPRINT, LONG, PASSPHRASE, SOUND_PAPER, THREE_GROUPS, TWO
 from samples import changed, fingerprint_of, name_of, named, refused_beside, with_words
@@ -336,8 +336,4 @@ CHECKS = [
     check_mixed,
     check_recover,
 ]
-
-
-def check(see):
-    for one in CHECKS:
-        one()
+check = in_turn(CHECKS)

@@ -3,7 +3,7 @@ from astray import PLAN
 from hands import say
 from refusals import NUMBERED, word_prompt
 from slips import sure, write_anew
-from tasks import SIGN, end_by_keys, paper_prompt, started
+from tasks import SIGN, end_by_keys, in_turn, paper_prompt, started
 
 from samples import FINGERPRINT, PASSPHRASE, SOUND_PAPER, THREE_GROUPS, changed, fingerprint_of, papers_of, swapped, with_words
 
@@ -167,8 +167,4 @@ CHECKS = [
     check_untried,
     check_taken_out,
 ]
-
-
-def check(see):
-    for one in CHECKS:
-        one()
+check = in_turn(CHECKS)

@@ -1,7 +1,7 @@
 """What an owner forgets, mistypes or writes down wrongly, and what the program says and keeps then."""
 from hands import Failed, counted, say
 from refusals import NUMBERED, back_prompt
-from tasks import SIGN, end_by_keys, paper_prompt, short, started
+from tasks import SIGN, end_by_keys, in_turn, paper_prompt, short, started
 
 from samples import FINGERPRINT, PASSPHRASE, THREE_GROUPS, name_of, papers_of, swappable, swapped, with_words
 from shamir.papers.marks import said_count
@@ -250,8 +250,4 @@ def check_fingerprint():
 
 
 CHECKS = [check_fingerprint, check_damaged, check_number, check_twice, check_written_wrongly, check_sign, check_left_out, check_plans, check_spaces]
-
-
-def check(see):
-    for one in CHECKS:
-        one()
+check = in_turn(CHECKS)

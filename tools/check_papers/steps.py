@@ -1,7 +1,7 @@
 """What an owner can answer in the tasks 'new', 'replace' and 'repair', the ways back, and answers where the screen is full."""
 from hands import MORE, Failed, say
 from refusals import NUMBERED, back_prompt, word_prompt
-from tasks import SIGN, end_by_keys, paper_prompt, started
+from tasks import SIGN, end_by_keys, in_turn, paper_prompt, started
 
 import plain
 import shamir
@@ -359,8 +359,4 @@ def check_full():
 
 
 CHECKS = [check_new, check_replace, check_wrong_plan, check_repair, check_back, check_spaced, check_full]
-
-
-def check(see):
-    for one in CHECKS:
-        one()
+check = in_turn(CHECKS)

@@ -303,6 +303,16 @@ def check_what(papers, noted):
         owner.end(0)
 
 
+def in_turn(checks):
+    """Returns the part that has these checks."""
+
+    def check(_):
+        for one in checks:
+            one()
+
+    return check
+
+
 # What is done with the papers of a new backup, and its fingerprint.
 TASKS = [check_check, check_recover, check_replace, check_change, check_repair, check_what]
 
