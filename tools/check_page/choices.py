@@ -47,28 +47,23 @@ def check_green(page, wanted):
 def check_wallet(page, see):
     """The wallet must be said, and its number of words sets the length of a new secret. The answers stay on the way back."""
     begin(page, "make")
-    page.push(say("continue"))
-    page.wait_title(say("make.wallet"))
+    page.push(say("continue"), to=say("make.wallet"))
     page.push(say("continue"))
     page.wait_text(say("wallet.missing"))
     page.wait_text(f"only shamir {VERSION} was tried")
     see("which wallet")
     page.choose(say("wallet.older"))
     page.lacks(say("wallet.missing"), "what was missing stays after it was chosen")
-    page.push(say("back"))
-    page.wait_title(say("make.plan"))
+    page.push(say("back"), to=say("make.plan"))
     for wallet in ("unknown", "older", "flag"):
         choose_wallet(page, wallet, 33)
         page.wait_text(say("secret.new.hint", bytes=32, words=33), say("passphrase.new"))
-        page.push(say("back"))
-        page.wait_title(say("make.wallet"))
+        page.push(say("back"), to=say("make.wallet"))
         for chosen in (say(f"wallet.{wallet}"), say("entry.words", count=33)):
             if not page.is_chosen(chosen):
                 raise Failed(f"on the way back, another wallet or number of words is chosen than {chosen!r}")
-        page.push(say("back"))
-        page.wait_title(say("make.plan"))
-    page.push(say("back"))
-    page.wait_title(say("home.title"))
+        page.push(say("back"), to=say("make.plan"))
+    page.push(say("back"), to=say("home.title"))
 
 
 # In place of the random bytes of the worker, these are drawn: 1, 8, 15, and so on. Before they are given, a script may change them.
@@ -107,8 +102,7 @@ def check_dice(page, see):
                 page.push(say("make.create"))
                 page.wait_text(text)
         see("throws of a die")
-        page.push(say("make.create"))
-        page.wait_title(say("make.forms"))
+        page.push(say("make.create"), to=say("make.forms"))
         page.wait_text(say("more.dice.mixed"))
         check_green(page, [])
         page.push(say("forms.go"))
@@ -132,23 +126,19 @@ def check_dangers(page, see):
     for number, said in [(2, say("plan.lost.one", names="1.0")), (1, say("plan.found.one", names="1.0"))]:
         page.wait(lambda: said == page.evaluate("document.querySelector('main .bad:not([hidden])')?.innerText ?? ''"), f"the danger {said!r} in red")
         see("a plan with a danger")
-        page.push(say("continue"))
-        page.wait_title(say("plan.sure.title"))
+        page.push(say("continue"), to=say("plan.sure.title"))
         page.wait_text(said)
         check_green(page, [])
         see("whether the plan is meant")
-        page.push(say("plan.sure.back"))
-        page.wait_title(say("make.plan"))
+        page.push(say("plan.sure.back"), to=say("make.plan"))
         if number == 2:
             page.push(f"{say('plan.fewer')}: {say('plan.groups_needed')}")
     page.push(say("continue"))
-    page.push(say("plan.sure.yes"))
-    page.wait_title(say("make.wallet"))
+    page.push(say("plan.sure.yes"), to=say("make.wallet"))
     page.push(say("back"))
     page.choose(say("plan.two"))
     page.wait(lambda: not page.evaluate("document.querySelector('main .bad').checkVisibility()"), "the end of the danger")
-    page.push(say("continue"))
-    page.wait_title(say("make.wallet"))
+    page.push(say("continue"), to=say("make.wallet"))
     clear(page)
 
 
@@ -159,8 +149,7 @@ def make_own(page):
     type_digits(page, SECRET, SECRET, FINGERPRINT)
     for field in ("passphrase.label", "passphrase.again"):
         page.fill(say(field), PASSPHRASE)
-    page.push(say("make.create"))
-    page.wait_title(say("make.forms"))
+    page.push(say("make.create"), to=say("make.forms"))
     check_green(page, [say("secret.same")])
     page.push(say("forms.go"))
     papers = []
@@ -181,14 +170,11 @@ def make_own(page):
 def check_notes(page, see):
     """What was noted is asked for, and compared, before a backup is made. A wrong passphrase and a wrong fingerprint are told apart."""
     make_own(page)
-    page.push(say("noted.skip"))
-    page.wait_title(say("proof.title"))
+    page.push(say("noted.skip"), to=say("proof.title"))
     if FINGERPRINT in page.text() or not page.is_true("(it) => it.checked", page.node("checkbox", say("noted.none"))):
         raise Failed("the fingerprint is shown while it is asked for, or the page forgets that none was noted")
-    page.push(say("proof.show"))
-    page.wait_title(say("noted.title.own"))
-    page.push(say("noted.done"))
-    page.wait_title(say("proof.title"))
+    page.push(say("proof.show"), to=say("noted.title.own"))
+    page.push(say("noted.done"), to=say("proof.title"))
     answer_passphrase(page, PASSPHRASE, "01234567")
     page.wait_text(say("proof.other"))
     see("another fingerprint than the backup has")
@@ -202,8 +188,7 @@ def check_notes(page, see):
         page.wait_text(say(text))
         check_green(page, [])
         see(f"what was noted is wrong {passphrase}")
-        page.push(say("proof.again"))
-        page.wait_title(say("proof.title"))
+        page.push(say("proof.again"), to=say("proof.title"))
     page.retype(say("noted.label"), "")
     drill(page, PASSPHRASE, None)
     page.wait_text(say("verdict.all.own", quorums=counted(3, "quorum"), fingerprint=FINGERPRINT))
@@ -323,8 +308,7 @@ def check_phone(page, see):
         if what == "wallet":
             page.size(1200, 900)
             begin(page, "make")
-            page.push(say("continue"))
-            page.wait_title(say("make.wallet"))
+            page.push(say("continue"), to=say("make.wallet"))
         page.size(*PHONE)
         if page.evaluate(CUT):
             raise Failed(f"on a screen that got narrower, texts don't fit into their boxes: {page.evaluate(CUT)}")

@@ -31,8 +31,7 @@ def check_unread(page, see):
         see("words that were not read")
         if what == "a refused paper":
             page.push(say("entry.empty"))
-    page.push(say("collect.unread.drop"))
-    page.wait_title(say("check.done.few"))
+    page.push(say("collect.unread.drop"), to=say("check.done.few"))
     end(page)
 
 
@@ -144,8 +143,7 @@ def check_kept(page, see):
         if page.evaluate(filled) != 25:
             raise Failed("the answer that goes back to the words loses them")
         page.push(say("back"))
-        page.push(say("entry.lost.go"))
-        page.wait_title(say("home.title"))
+        page.push(say("entry.lost.go"), to=say("home.title"))
 
 
 def of_sound(changes):
@@ -239,8 +237,7 @@ def check_known_count(page, see):
         raise Failed("the number of words of a damaged paper isn't asked for")
     paste(page, of_sound({6: "?"}))
     page.push(say("damaged.write", name="0.0"))
-    page.push(say("paper.written"))
-    page.wait_title(say("back.title", name="0.0"))
+    page.push(say("paper.written"), to=say("back.title", name="0.0"))
     for typed, told, counted_as in [
         (" ".join(SOUND_PAPER.split()[:2]), say("back.missing", number=3, count=2, fields=20), "false 20"),
         (f"{SOUND_PAPER} acid", said(12, first=21), "true 21"),

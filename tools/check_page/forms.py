@@ -37,8 +37,7 @@ def named_forms(*names):
 
 
 def leave(page):
-    page.push(say("back"))
-    page.wait_title(say("home.title"))
+    page.push(say("back"), to=say("home.title"))
 
 
 def check_blank(page, see):
@@ -80,8 +79,7 @@ def check_offered(page, see):
     begin(page, "make")
     choose_wallet(page)
     page.tick(say("passphrase.none"))
-    page.push(say("make.create"))
-    page.wait_title(say("make.forms"))
+    page.push(say("make.create"), to=say("make.forms"))
     page.evaluate("document.querySelector('main details').open = true; null")
     page.fill(say("forms.label", name="0.1"), "Home A")
     see("forms for a new backup")

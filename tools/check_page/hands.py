@@ -86,10 +86,12 @@ class Page:
                 self.press("Tab")
         raise Failed(f"Tab doesn't reach the {role} {name!r}")
 
-    def push(self, name):
-        """Presses a button."""
+    def push(self, name, to=""):
+        """Presses a button, and waits for the screen with the title `to`, if that is given."""
         self.go_to("button", name)
         self.press("Enter")
+        if to:
+            self.wait_title(to)
 
     def double_click(self, name):
         """Presses a button with the mouse, twice. Between the presses, what the first one calls for has time to come."""

@@ -41,8 +41,7 @@ def check_launch(page, see):
         ("() => given.call(in_client.Desk).then((it) => { it.begun.fault = 'recover'; return it; })", say("lacks.wrong", fault="recover")),
     ]:
         page.evaluate(LAUNCH % launch)
-        page.push(say("home.check"))
-        page.wait_title(say("lacks.title"))
+        page.push(say("home.check"), to=say("lacks.title"))
         page.wait_text(text)
         see("a task that doesn't start")
         page.evaluate(UNDO)
@@ -75,8 +74,7 @@ def check_double_click(page, _):
 def check_late_words(page):
     """Words that come late aren't shown while the page asks whether to clear them."""
     page.evaluate(ASK % "paper")
-    page.push(say("paper.written"))
-    page.wait_title(say("paper.title", name="0.2"))
+    page.push(say("paper.written"), to=say("paper.title", name="0.2"))
     page.push(say("clear"))
     page.wait_text(say("clear.unfinished"))
     page.evaluate(UNDO)
@@ -104,8 +102,7 @@ def check_stop(page, see):
     begin_long(page)
     time.sleep(2)
     page.evaluate("{ const given = Worker; window.undo = () => { window.Worker = given; }; window.Worker = function () { throw new Error('none'); }; } null")
-    page.push(say("stop"))
-    page.wait_title(say("fault.title"))
+    page.push(say("stop"), to=say("fault.title"))
     page.wait_text(say("fault.other"))
     page.evaluate(UNDO)
     see("no other worker starts")

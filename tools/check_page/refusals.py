@@ -48,8 +48,7 @@ def check_papers(page, see):
     page.wait_text(say("check.sound", papers=counted(1, "paper"), names="0.0"))
     page.wait_text(say("status.not_enough", needed=counted(2, "whole"), here=0))
     see("too few papers")
-    page.push(say("collect.more"))
-    page.wait_title(say("check.title"))
+    page.push(say("collect.more"), to=say("check.title"))
     page.wait_text(say("collect.row", name="0.0", words=20))
     page.push(say("collect.drop", name="0.0"))
     page.wait_text(say("collect.dropped", name="0.0"))
@@ -218,8 +217,7 @@ def check_prepare(page, _):
     """The question before the first task: a machine that seems online is asked twice, and one that seems offline once. A change shows."""
     for is_online in (True, False):
         page.evaluate(ONLINE % str(is_online).lower() + " null")
-        page.push(say("home.check"))
-        page.wait_title(say("prepare.title"))
+        page.push(say("home.check"), to=say("prepare.title"))
         page.wait_text(say("prepare.online" if is_online else "prepare.offline"))
         if is_online:
             page.evaluate(ONLINE % "false" + " window.dispatchEvent(new Event('offline')); null")
@@ -229,8 +227,7 @@ def check_prepare(page, _):
         page.push(say("prepare.ready"))
         if is_online:
             page.wait_text(say("prepare.still_online"))
-            page.push(say("prepare.no"))
-            page.wait_title(say("home.title"))
+            page.push(say("prepare.no"), to=say("home.title"))
     page.wait_title(say("check.title"))
     clear(page)
 
@@ -273,10 +270,8 @@ def check_recovery(page, see):
                 page.wait_text(say("drill.mismatch", group=0) if "group 0" in text else say("drill.mismatch_groups"))
                 page.wait_title(say("check.done.some"))
                 page.wait_text(say("verdict.nothing", quorums=counted(1, "quorum")))
-                page.push(say("collect.back"))
-                page.wait_title(say("check.title"))
-                page.push(say("collect.end"))
-                page.wait_title(say("check.passphrase"))
+                page.push(say("collect.back"), to=say("check.title"))
+                page.push(say("collect.end"), to=say("check.passphrase"))
                 clear(page)
                 continue
             else:

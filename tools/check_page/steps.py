@@ -68,8 +68,7 @@ def check_passphrase(page, _):
     take(page, [SOUND_PAPER])
     if say("back") in page.text().splitlines():
         raise Failed("one press leaves the papers that were read")
-    page.push(say("collect.end"))
-    page.wait_title(say("check.passphrase"))
+    page.push(say("collect.end"), to=say("check.passphrase"))
     go_back(page, say("check.title"))
     page.wait_text(say("collect.row", name="0.0", words=20))
     page.push(say("collect.end"))
@@ -132,8 +131,7 @@ def check_one_group(page, _):
     page.wait_text(say("replace.enough"))
     page.push(say("collect.end"))
     page.choose(say("which.paper", name="0.1"))
-    page.push(say("which.write"))
-    page.wait_title(say("paper.title", name="0.1"))
+    page.push(say("which.write"), to=say("paper.title", name="0.1"))
     clear(page, is_asked=True)
     begin_replace(page)
     paste(page, SOUND_PAPER)
@@ -157,8 +155,7 @@ def check_chosen(page, see):
     page.wait_text(say("plan.sentence.both"))
     for wallet in ("flag", "older"):
         page.push(say("continue"))
-        page.push(say("plan.sure.yes"))
-        page.wait_title(say("make.wallet"))
+        page.push(say("plan.sure.yes"), to=say("make.wallet"))
         page.choose(say(f"wallet.{wallet}"))
         page.choose(say("entry.words", count=33))
         page.push(say("back" if wallet == "flag" else "continue"))
@@ -169,8 +166,7 @@ def check_chosen(page, see):
     go_back(page, say("make.wallet"))
     go_back(page, say("make.plan"))
     for answer, title in [("continue", "plan.sure.title"), ("plan.sure.yes", "make.wallet"), ("continue", "make.secret")]:
-        page.push(say(answer))
-        page.wait_title(say(title))
+        page.push(say(answer), to=say(title))
     if not page.is_chosen(say("secret.own")):
         raise Failed("on the way back, another secret is chosen")
     see("what was chosen stays")

@@ -54,12 +54,18 @@ def take_all(page, lines):
     page.push(say("collect.end"))
 
 
-def answer_passphrase(page, passphrase, noted):
-    """Answers the questions for the passphrase and for the noted fingerprint. None stands for none."""
+def type_passphrase(page, passphrase, *labels):
+    """Types a passphrase into the fields with these labels. None stands for none."""
     if passphrase is None:
         page.tick(say("passphrase.none"))
     else:
-        page.fill(say("passphrase.label"), passphrase)
+        for label in labels:
+            page.fill(say(label), passphrase)
+
+
+def answer_passphrase(page, passphrase, noted):
+    """Answers the questions for the passphrase and for the noted fingerprint. None stands for none."""
+    type_passphrase(page, passphrase, "passphrase.label")
     if noted is None:
         page.tick(say("noted.none"))
     else:
@@ -74,18 +80,15 @@ def drill(page, passphrase, noted):
 
 def choose_wallet(page, wallet="flag", words=20):
     """Goes on from the plan, and says which wallet will read the papers, and how many words it asks for."""
-    page.push(say("continue"))
-    page.wait_title(say("make.wallet"))
+    page.push(say("continue"), to=say("make.wallet"))
     page.choose(say(f"wallet.{wallet}"))
     if words != 20:
         page.choose(say("entry.words", count=words))
-    page.push(say("continue"))
-    page.wait_title(say("make.secret"))
+    page.push(say("continue"), to=say("make.secret"))
 
 
 def end(page):
-    page.push(say("end"))
-    page.wait_title(say("home.title"))
+    page.push(say("end"), to=say("home.title"))
 
 
 def clear(page, is_asked=False):
@@ -104,8 +107,7 @@ def read_paper(page):
 
 def create(page, is_noted=False):
     """Makes the papers, and goes on to the first. `is_noted` says that the secret was compared with a noted fingerprint."""
-    page.push(say("make.create"))
-    page.wait_title(say("make.forms"))
+    page.push(say("make.create"), to=say("make.forms"))
     if (say("secret.same") in page.text()) != is_noted:
         raise Failed("the page doesn't say that the digits have the noted fingerprint, or says it of other ones")
     page.push(say("forms.go"))
@@ -119,11 +121,7 @@ def make(page, plan_label, wallet, words, passphrase, see, digits=None):
     choose_wallet(page, wallet, words)
     if digits is not None:
         type_digits(page, digits, digits, FINGERPRINT)
-    if passphrase is None:
-        page.tick(say("passphrase.none"))
-    else:
-        page.fill(say("passphrase.label"), passphrase)
-        page.fill(say("passphrase.again"), passphrase)
+    type_passphrase(page, passphrase, "passphrase.label", "passphrase.again")
     see("secret")
     create(page, digits is not None)
     papers = []
@@ -178,16 +176,12 @@ def prove(page, passphrase, fingerprint, is_drawn, see):
     see("what was noted")
     if fingerprint in page.text() or is_drawn == bool(page.located("checkbox", say("noted.none"))):
         raise Failed("the fingerprint is shown while it is asked for, or the owner of a new secret needn't type it")
-    if passphrase is None:
-        page.tick(say("passphrase.none"))
-    else:
-        page.fill(say("passphrase.label"), passphrase)
+    type_passphrase(page, passphrase, "passphrase.label")
     for typed, text in [("", "proof.missing"), ("xyz", "proof.wrong"), (fingerprint, "drill.what")] if is_drawn else [(fingerprint, "drill.what")]:
         page.retype(say("noted.label"), typed)
         page.push(say("continue"))
         page.wait_text(say(text))
-    page.push(say("drill.start"))
-    page.wait_title(say("make.done"))
+    page.push(say("drill.start"), to=say("make.done"))
     if not page.evaluate("Boolean(document.querySelector('.verdict .good'))") or fingerprint not in page.text():
         raise Failed("a backup that gives the noted secret isn't said to")
 
@@ -236,8 +230,7 @@ def check_papers(page, see):
     page.wait_title(say("check.done.good"))
     page.lacks(say("again"), "a good result is offered to be tried again")
     see("end of a good check")
-    page.push(say("collect.back"))
-    page.wait_title(say("check.title"))
+    page.push(say("collect.back"), to=say("check.title"))
     page.push(say("collect.end"))
     drill(page, "TREZOr", FINGERPRINT)
     page.wait_text(say("verdict.other", quorums=counted(7, "quorum"), noted=FINGERPRINT))
@@ -246,8 +239,7 @@ def check_papers(page, see):
     page.wait_text(say("verdict.other", quorums=counted(7, "quorum"), noted=FINGERPRINT))
     page.wait_text(say("check.other"))
     see("end of a check with a wrong passphrase")
-    page.push(say("again"))
-    page.wait_title(say("check.passphrase"))
+    page.push(say("again"), to=say("check.passphrase"))
     if not page.is_true(f"(it) => it.value === '{FINGERPRINT}'", page.node("textbox", say("noted.label"))):
         raise Failed("another try empties the noted fingerprint")
     clear(page)
@@ -288,8 +280,7 @@ def check_replace(page, see):
     for line in THREE_GROUPS[:1] + THREE_GROUPS[3:]:
         type_paper(page, line)
     page.wait_text(say("collect.taken", name="2.0"))
-    page.push(say("collect.end"))
-    page.wait_title(say("replace.which"))
+    page.push(say("collect.end"), to=say("replace.which"))
     see("which paper is missing")
     page.choose(say("which.paper", name="0.1"))
     page.push(say("which.write"))
@@ -311,10 +302,8 @@ def check_replace(page, see):
     begin_replace(page, "other")
     page.wait_text(say("replace.new.change"))
     see("a new backup instead")
-    page.push(say("replace.new.change.go"))
-    page.wait_title(say("change.title"))
-    page.push(say("back"))
-    page.wait_title(say("home.title"))
+    page.push(say("replace.new.change.go"), to=say("change.title"))
+    page.push(say("back"), to=say("home.title"))
 
 
 def type_damaged(page, line):
@@ -328,10 +317,8 @@ def write_anew(page, line):
     name = name_of(line)
     page.wait_title(say("damaged.title"))
     paste(page, with_words(line, {6: "?"}))
-    page.push(say("damaged.write", name=name))
-    page.wait_title(say("paper.title", name=name))
-    page.push(say("paper.written"))
-    page.wait_title(say("back.title", name=name))
+    page.push(say("damaged.write", name=name), to=say("paper.title", name=name))
+    page.push(say("paper.written"), to=say("back.title", name=name))
     paste(page, line)
     page.wait_title(say("damaged.check.title"))
 
@@ -357,19 +344,16 @@ def check_damaged(page, see):
     page.press("Backspace")
     page.type("? ")
     page.push(say("entry.read"))
-    page.push(say("damaged.write", name="0.1"))
-    page.wait_title(say("paper.title", name="0.1"))
+    page.push(say("damaged.write", name="0.1"), to=say("paper.title", name="0.1"))
     if read_paper(page) != THREE_GROUPS[1]:
         raise Failed("the repaired paper isn't the damaged one")
-    page.push(say("paper.written"))
-    page.wait_title(say("back.title", name="0.1"))
+    page.push(say("paper.written"), to=say("back.title", name="0.1"))
     type_paper(page, THREE_GROUPS[1], is_by_four=True)
     page.wait_title(say("damaged.check.title"))
     page.wait_text(say("back.same", name="0.1"))
     page.wait_text(say("collect.row.repaired", name="0.1", words=20))
     see("check of a repaired paper")
-    page.push(say("collect.end"))
-    page.wait_title(say("check.done.few"))
+    page.push(say("collect.end"), to=say("check.done.few"))
     page.wait_text(say("damaged.too_few"))
     page.lacks("sound", f"a repaired paper is called sound: {page.text()!r}")
     see("too few papers for a repaired one")
