@@ -74,6 +74,7 @@ def answer_passphrase(page, passphrase, noted):
 
 
 def drill(page, passphrase, noted):
+    """Answers these questions, and begins the drill."""
     answer_passphrase(page, passphrase, noted)
     page.push(say("drill.start"))
 

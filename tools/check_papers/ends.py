@@ -12,7 +12,7 @@ from hands import END, PATIENCE, Failed, Interrupted, environment, habits, say
 from tasks import TASKS, check_new, end_by_keys, paper_prompt, started
 
 import plain
-from samples import FINGERPRINT, PASSPHRASE, THREE_GROUPS, name_of, with_words
+from samples import FINGERPRINT, PASSPHRASE, THREE_GROUPS, with_words
 
 AT_ONCE = 4
 # The fields of a paper that is a quorum alone, and takes long.
@@ -108,6 +108,15 @@ def settle_slow(owner, exponent):
     owner.answer("Is that right? (y/n)", "y")
 
 
+def drill_slowly(owner):
+    """Makes a backup with a high exponent, up to its drill."""
+    settle_slow(owner, "8")
+    owner.draw(PASSPHRASE)
+    owner.type_back(owner.written())
+    owner.answer(say("noted.done"), "")
+    owner.prove(owner.noted(), PASSPHRASE)
+
+
 def check_work():
     """Ctrl-C while the library works for long, and the key that stops that."""
     with started("new", "2of3") as owner:
@@ -150,14 +159,7 @@ def check_unproved():
     """A new backup whose drill was stopped is no finished one, and the program says so at its end."""
     # The drill takes ten times as long as the making.
     with started("new", "3of5") as owner:
-        settle_slow(owner, "8")
-        owner.draw(PASSPHRASE)
-        papers = owner.written()
-        owner.answer(say("screen.next"), "")
-        for line in papers:
-            owner.answer(say("back.ask", name=name_of(line)), line)
-        owner.answer(say("noted.done"), "")
-        owner.prove(owner.noted(), PASSPHRASE)
+        drill_slowly(owner)
         wait_working(owner)
         stop(owner)
         owner.wait(say("make.failed.again"))
@@ -345,13 +347,7 @@ def check_written_again():
 def check_held_drill():
     """Ctrl-C while the drill of a new backup runs: the drill goes on if the owner stays."""
     with started("new", "1of1") as owner:
-        settle_slow(owner, "8")
-        line = owner.draw(PASSPHRASE)
-        owner.answer(say("new.write"), "")
-        owner.answer(say("screen.next"), "")
-        owner.answer(say("back.ask", name="0.0"), line)
-        owner.answer(say("noted.done"), "")
-        owner.prove(owner.noted(), PASSPHRASE)
+        drill_slowly(owner)
         owner.expect(say("time.long", exponent=8, time="").split("about")[0])
         owner.type("\x03")
         owner.wait(END)

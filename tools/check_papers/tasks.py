@@ -4,7 +4,7 @@ import re
 
 from hands import Failed, Session, counted, say
 
-from samples import PASSPHRASE, SOUND_PAPER, check_papers_of, check_backups, fingerprint_of, name_of, names_of, said_kind, secret_of, with_words
+from samples import PASSPHRASE, SOUND_PAPER, check_backups, check_papers_of, fingerprint_of, name_of, names_of, said_kind, secret_of, with_words
 from shamir.papers.screen import BACK
 
 SIGN = "-"
