@@ -7,7 +7,7 @@ from choices import DRAWN, FOREKNOWN, PHONE, check_green
 from long_drill import check_bar
 from refusals import said
 from samples import FINGERPRINT, PASSPHRASE, SECRET, THREE_GROUPS, changed, check_backups, fingerprint_of, name_of, papers_of
-from tasks import answer_passphrase, begin, begin_replace, clear, drill, end, paste, read_paper, take_all
+from tasks import answer_passphrase, begin, begin_replace, clear, drill, end, paste, take_all, write_down
 from texts import counted, say
 
 import plain
@@ -45,13 +45,7 @@ def write(page, see, old, is_checked=False):
     page.wait_text(say("change.mark"), say("forms.print"))
     pictures(page, see, "pen and paper")
     page.push(say("forms.go"))
-    new = []
-    while page.title() != say("back.begin.title"):
-        shown = page.title()
-        new.append(read_paper(page))
-        page.push(say("paper.written"))
-        page.wait(lambda: page.title() != shown, "the end of a paper")
-    page.push(say("continue"))
+    new = write_down(page)
     for line in new:
         page.wait_title(say("back.title", name=name_of(line)))
         if is_checked and line == new[0]:

@@ -5,7 +5,7 @@ import json
 from browsers import Failed
 from refusals import said
 from samples import BAD_CHECKSUM, BIP39, FINGERPRINT, PASSPHRASE, ROOT, SECRET, SOUND_PAPER, THREE_GROUPS, TWO, changed, fingerprint_of, name_of, said_kind
-from tasks import answer_passphrase, begin, choose_wallet, clear, create, drill, end, paste, read_paper, type_digits, type_paper
+from tasks import answer_passphrase, begin, choose_wallet, clear, create, drill, end, paste, read_paper, type_digits, type_paper, type_passphrase, write_down
 from texts import counted, say
 
 import plain
@@ -147,21 +147,17 @@ def make_own(page):
     begin(page, "make")
     choose_wallet(page)
     type_digits(page, SECRET, SECRET, FINGERPRINT)
-    for field in ("passphrase.label", "passphrase.again"):
-        page.fill(say(field), PASSPHRASE)
+    type_passphrase(page, PASSPHRASE, "passphrase.label", "passphrase.again")
     page.push(say("make.create"), to=say("make.forms"))
     check_green(page, [say("secret.same")])
     page.push(say("forms.go"))
-    papers = []
-    for name in ("0.0", "0.1", "0.2"):
-        page.wait_title(say("paper.title", name=name))
+
+    def look(number):
+        page.wait_title(say("paper.title", name=f"0.{number - 1}"))
         check_green(page, [])
-        papers.append(read_paper(page))
-        page.push(say("paper.written"))
-    page.wait_title(say("back.begin.title"))
-    page.push(say("continue"))
-    for name, line in zip(("0.0", "0.1", "0.2"), papers):
-        page.wait_title(say("back.title", name=name))
+
+    for number, line in enumerate(write_down(page, look)):
+        page.wait_title(say("back.title", name=f"0.{number}"))
         paste(page, line)
     page.wait_title(say("noted.title.own"))
     page.wait_text(FINGERPRINT)

@@ -4,7 +4,7 @@ import json
 
 from browsers import Failed
 from samples import FINGERPRINT, PASSPHRASE, SOUND_PAPER, THREE_GROUPS
-from tasks import answer_passphrase, begin, choose_wallet, clear, create, drill, end, paste, read_paper, take_all, write_anew
+from tasks import answer_passphrase, begin, choose_wallet, clear, create, drill, end, paste, take_all, write_anew, write_down
 from texts import say
 
 # Notes the title, the step and the buttons to press next of each screen, as it comes and as it changes.
@@ -69,14 +69,12 @@ def check_drill(page, title):
 
 def write(page):
     """Writes three papers down, and types them back. Each screen says which of them it has."""
-    papers = []
-    for number in (1, 2, 3):
+
+    def look(number):
         page.wait_title(say("paper.title", name=f"0.{number - 1}"))
         page.wait_text(say("paper.place", number=number, count=3))
-        papers.append(read_paper(page))
-        page.push(say("paper.written"))
-    page.push(say("continue"))
-    for number, line in enumerate(papers, 1):
+
+    for number, line in enumerate(write_down(page, look), 1):
         page.wait_text(say("paper.place", number=number, count=3))
         paste(page, line)
 

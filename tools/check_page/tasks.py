@@ -106,6 +106,19 @@ def read_paper(page):
     return page.evaluate("[...document.querySelectorAll('.paper li')].map((it) => it.textContent).join(' ')")
 
 
+def write_down(page, look=lambda number: None):
+    """Writes down each paper that the page shows, and goes on. Returns them. `look` is called with the number of each while it is shown."""
+    papers = []
+    while page.title() != say("back.begin.title"):
+        papers.append(read_paper(page))
+        shown = page.title()
+        look(len(papers))
+        page.push(say("paper.written"))
+        page.wait(lambda: page.title() != shown, "the end of a paper")
+    page.push(say("continue"))
+    return papers
+
+
 def create(page, is_noted=False):
     """Makes the papers, and goes on to the first. `is_noted` says that the secret was compared with a noted fingerprint."""
     page.push(say("make.create"), to=say("make.forms"))
@@ -125,19 +138,13 @@ def make(page, plan_label, wallet, words, passphrase, see, digits=None):
     type_passphrase(page, passphrase, "passphrase.label", "passphrase.again")
     see("secret")
     create(page, digits is not None)
-    papers = []
-    while True:
-        page.wait(lambda: page.title().startswith("Write down") or page.title() == say("back.begin.title"), "the next paper")
-        if page.title() == say("back.begin.title"):
-            break
-        papers.append(read_paper(page))
-        if len(papers) == 1:
+
+    def look(number):
+        if number == 1:
             page.wait_text("the name 0.0 and the words")
             see("paper")
-        shown = page.title()
-        page.push(say("paper.written"))
-        page.wait(lambda: page.title() != shown, "the end of a paper")
-    page.push(say("continue"))
+
+    papers = write_down(page, look)
     for number, line in enumerate(papers):
         page.wait_title(say("back.title", name=name_of(line)))
         if number:
