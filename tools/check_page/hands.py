@@ -86,10 +86,12 @@ class Page:
                 self.press("Tab")
         raise Failed(f"Tab doesn't reach the {role} {name!r}")
 
-    def push(self, name):
-        """Presses a button."""
+    def push(self, name, to=""):
+        """Presses a button, and waits for the screen with the title `to`, if that is given."""
         self.go_to("button", name)
         self.press("Enter")
+        if to:
+            self.wait_title(to)
 
     def double_click(self, name):
         """Presses a button with the mouse, twice. Between the presses, what the first one calls for has time to come."""
@@ -126,6 +128,18 @@ class Page:
         self.go_to(role, name)
         self.type(text)
 
+    def retype(self, name, text, role="textbox"):
+        """Types a text in place of what a field has."""
+        self.go_to(role, name)
+        self.evaluate("document.activeElement.select()")
+        if text:
+            self.type(text)
+        else:
+            self.press("Backspace")
+
+    def is_chosen(self, name):
+        return self.is_true("(it) => it.getAttribute('aria-checked') === 'true'", self.node("radio", name))
+
     # ---- what is to be seen
 
     def text(self):
@@ -144,11 +158,17 @@ class Page:
     def wait_title(self, title):
         self.wait(lambda: self.title() == title, f"the screen {title!r}")
 
-    def wait_text(self, text):
-        self.wait(lambda: text in self.text(), f"the text {text!r}")
+    def wait_text(self, *texts):
+        for text in texts:
+            self.wait(lambda: text in self.text(), f"the text {text!r}")
         bare = re.search(r"\(\d\d[:)]", self.text())
         if bare:
             raise Failed(f"a number that owners don't know is shown: {bare[0]}")
+
+    def lacks(self, text, why="this is shown, and shouldn't be"):
+        """Checks that a text isn't on the screen."""
+        if text in self.text():
+            raise Failed(f"{why}: {text!r}")
 
     def picture(self):
         """Returns a picture of the whole page, as PNG."""

@@ -15,7 +15,8 @@ import zlib
 
 from browsers import Failed, browser
 from hands import Page
-from tasks import SOUND_PAPER, begin, choose_wallet, type_paper
+from samples import SOUND_PAPER
+from tasks import begin, choose_wallet, clear, type_paper
 from texts import say
 from tool import waited
 
@@ -121,13 +122,11 @@ def typed_everywhere(page, source):
     # The field takes eight letters, and the search looks for halves of a marker too.
     page.fill(say("noted.label"), markers["noted fingerprint"])
     time.sleep(LOOKING)
-    page.push(say("clear"))
-    page.wait_title(say("home.title"))
+    clear(page)
     begin(page, "damaged")
     page.fill(say("entry.word", number=1), f"{markers['word of a damaged paper']}?")
     time.sleep(LOOKING)
-    page.push(say("clear"))
-    page.wait_title(say("home.title"))
+    clear(page)
     begin(page, "make")
     choose_wallet(page)
     page.choose(say("secret.own"))

@@ -155,6 +155,11 @@ class Session:
         wanted = " ".join(text.split())
         self.wait_shown(lambda: wanted in self.emulator.all_seen(), f"{wanted!r} isn't shown")
 
+    def lacks(self, text, why="this is shown, and shouldn't be"):
+        """Checks that a text wasn't shown since the last `forget`."""
+        if text in self.emulator.all_seen():
+            raise Failed(f"{why}: {text!r}")
+
     def forget(self):
         self.emulator.seen = []
 

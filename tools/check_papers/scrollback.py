@@ -7,7 +7,9 @@ import subprocess
 import tempfile
 
 from hands import PATIENCE, PROGRAM, Failed, environment, say
-from tasks import SECRET, THREE_GROUPS, paper_prompt, short
+from tasks import paper_prompt, short
+
+from samples import SECRET, THREE_GROUPS
 
 from tool import waited
 
