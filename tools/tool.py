@@ -46,6 +46,13 @@ def ran(words: Sequence[Union[str, pathlib.Path]], **options: Any) -> str:
     return str(done.stdout)
 
 
+def check_fails(what: str, words: Sequence[Union[str, pathlib.Path]], told: str, first: bool = False, **options: Any) -> None:
+    """Checks that a command fails, and that its errors have this text, or begin with it."""
+    done = subprocess.run(words, capture_output=True, text=True, **options)
+    if done.returncode == 0 or not (done.stderr.startswith(told) if first else told in done.stderr):
+        sys.exit(f"{what} ends with status {done.returncode}, {done.stderr!r}")
+
+
 def tested(words: Sequence[Union[str, pathlib.Path]], **options: Any) -> str:
     """Runs Python's unittest as `ran` runs a command. If it finds no test, which isn't a failure before Python 3.12, it fails too."""
     told = ran(words, **options)
