@@ -11,6 +11,8 @@ from dataclasses import dataclass
 from typing import Any, Iterator, List, Optional, Sequence, Tuple, Union
 
 import driver
+import shamir_h
+
 plain: Any = importlib.import_module("plain")
 
 ROOM = 1024
@@ -20,6 +22,8 @@ UNFILLED = (MARK << 8 | MARK, *[MARK] * 8)
 DIGITS, FINGERPRINTS, EXPECTED = range(3)
 OF_GROUPS = 16
 TOO_SHORT = 1
+# A message shows so much of a line.
+SHOWN = 3000
 
 KEY = "TREZOR"
 SECRET = bytes.fromhex("bb54aac4b89dc868ba37d9cc21b2cece")
@@ -756,15 +760,9 @@ def examples() -> Iterator[Example]:
         yield example("create_from_encrypted", [plan, *kept, value, drawn], answer, output)
     for call, table in [("status", STATUSES), ("fingerprint", FINGERPRINTED), ("words", WORDS), ("repair", REPAIRED)]:
         yield from (example(call, [given], answer, output) for given, answer, output in table)
-    yield example("version", [], DONE, version())
+    yield example("version", [], DONE, shamir_h.VERSION)
     for code, first, second, text in TOLD:
         yield example("text", [code, 0, 3, first, second, 0], DONE, text)
-
-
-def version() -> str:
-    header = (driver.ROOT / "include" / "shamir.h").read_text()
-    [found] = re.findall('^#define SHAMIR_VERSION "(.*)"$', header, re.MULTILINE)
-    return str(found)
 
 
 def wanted(answer: Answer, output: bytes = b"", mismatches: int = 0, fields: Sequence[int] = ()) -> str:
@@ -815,7 +813,12 @@ def calls() -> List[Made]:
 
 def check(program: Sequence[str], made: Sequence[Made]) -> None:
     """Makes calls by a driver, and says which of them it answers otherwise."""
-    found = driver.answers(program, [line for line, _ in made])
-    told = [f"{line}\n  gives  {one}\n  wanted {right}" for (line, right), one in zip(made, found) if one != right]
-    if told or len(found) != len(made):
-        raise driver.Failed("\n".join([f"{len(found)} worked examples of {len(made)} are answered, {len(told)} of them otherwise", *told]))
+    compare(made, driver.answers(program, [line for line, _ in made]))
+
+
+def compare(made: Sequence[Made], found: Sequence[str]) -> None:
+    """Says which calls are answered otherwise. What a line must be can be its beginning."""
+    wrong = [(line, right, one) for (line, right), one in zip(made, found) if not one.startswith(right) or one.endswith("changed")]
+    if wrong or len(found) != len(made):
+        told = [f"{line[:SHOWN]}\n  gives  {one[:SHOWN]}\n  wanted {right[:SHOWN]}" for line, right, one in wrong]
+        raise driver.Failed("\n".join([f"{len(found)} calls of {len(made)} are answered, {len(wrong)} of them otherwise", *told]))

@@ -19,10 +19,11 @@ HERE = pathlib.Path(__file__).resolve().parent
 ROOT = HERE.parent.parent
 sys.path.insert(0, str(HERE.parent))
 
+import shamir_h  # noqa: E402
 from left_out import is_here  # noqa: E402
 from tool import ran, tool, workers  # noqa: E402
 
-manual, module, rust = tool("manual"), tool("module"), tool("rust")
+module, rust = tool("module"), tool("rust")
 
 HEADERS = ROOT / "include"
 COMPILERS = {"g++": "gcc", "clang++": "clang"}
@@ -47,7 +48,7 @@ BATCH = 50
 def check_calls():
     """Checks that the layer makes each call of the library."""
     made = set(re.findall(r"\bshamir_\w+(?=\()", (HEADERS / "shamir.hpp").read_text()))
-    missing = set(manual.calls_of_header(manual.HEADER.read_text())) - made
+    missing = set(shamir_h.calls()) - made
     if missing:
         sys.exit(f"include/shamir.hpp makes no call of {' and '.join(sorted(missing))}")
 

@@ -3,13 +3,12 @@ import random
 from typing import Callable, Dict, List
 
 import driver
+import shamir_h
 from tool import tool
 
 compare, module = tool("compare"), tool("module")
 
-ENOUGH = {"parse": 128, "create": 253440, "recover": 128, "drill": 65536, "status": 1638, "reissue": 253440, "repair": 1980, "resplit": 253440}
-ENOUGH |= {"encrypted": 128, "decrypt": 128, "decrypt_round": 128, "judge": 1638, "create_from_encrypted": 253440}
-ENOUGH |= {"fingerprint": 8, "words": 7231, "text": 64, "version": 64}
+ENOUGH = {**shamir_h.ENOUGH, "drill": 65536}
 CODES = [*range(0, 35), 41, 42, 43, 44, 51, 52, *range(61, 69), 71, 72, 99, 2**32 - 1]
 FORMS = [0, 0, 1, 2, 2, 3]
 
