@@ -4,9 +4,8 @@ from typing import Callable, Dict, List
 
 import driver
 import shamir_h
-from tool import tool
+from generated_cases import compare, judge_case
 
-compare, module = tool("compare"), tool("module")
 
 ENOUGH = {**shamir_h.ENOUGH, "drill": 65536}
 CODES = [*range(0, 35), 41, 42, 43, 44, 51, 52, *range(61, 69), 71, 72, 99, 2**32 - 1]
@@ -81,7 +80,7 @@ def status_call(rng: random.Random) -> str:
 
 
 def judge_call(rng: random.Random) -> str:
-    case = module.judge_case(rng)
+    case = judge_case(rng)
     return call(rng, "judge", case.data, bytes.fromhex(case.words[1]))
 
 
