@@ -135,13 +135,12 @@ def by_plain(words: List[str], data: bytes) -> str:
 
 
 @functools.cache
-def made(printed: Printed) -> List[worked.Made]:
+def made(printed: Printed) -> List[driver.Made]:
     """Returns the lines of the calls, each with room of the length that the header names, and what the driver must write."""
     return [(driver.line(call, given, shamir_h.ENOUGH.get(call, 0)), right) for call, given, right in calls(printed)]
 
 
 def touched(program: str, printed: Printed = by_plain) -> int:
     """Makes the calls on a stack of the size that the header names, and compares the answers. Returns how many bytes of it they touch."""
-    *found, count = driver.answers([program], [line for line, _ in made(printed)], "stack")
-    worked.compare(made(printed), found)
+    [count] = driver.check([program], made(printed), "stack")
     return int(count)

@@ -22,8 +22,6 @@ UNFILLED = (MARK << 8 | MARK, *[MARK] * 8)
 DIGITS, FINGERPRINTS, EXPECTED = range(3)
 OF_GROUPS = 16
 TOO_SHORT = 1
-# A message shows so much of a line.
-SHOWN = 3000
 
 KEY = "TREZOR"
 SECRET = bytes.fromhex("bb54aac4b89dc868ba37d9cc21b2cece")
@@ -344,13 +342,15 @@ def compared(names: str, what: str) -> str:
     return f"{names} {what}\n"
 
 
-FIRST_PART = "".join(map(listed, ["0.0+0.1+1.0", "0.0+0.1+2.0", "0.0+0.2+1.0", "0.0+0.2+2.0"])) + "more after 0.0+0.2+2.0\n"
-LAST_PART = "".join(map(listed, ["0.1+0.2+1.0", "0.1+0.2+2.0", "1.0+2.0"])) + "end\n"
+# The quorums of FIVE, and those of FOUR.
+OF_FIVE = ["0.0+0.1+1.0", "0.0+0.1+2.0", "0.0+0.2+1.0", "0.0+0.2+2.0", "0.1+0.2+1.0", "0.1+0.2+2.0", "1.0+2.0"]
+OF_FOUR = ["0.0+0.1+1.0", "0.0+0.1+2.0", "1.0+2.0"]
+FIRST_PART = "".join(map(listed, OF_FIVE[:4])) + "more after 0.0+0.2+2.0\n"
+LAST_PART = "".join(map(listed, OF_FIVE[4:])) + "end\n"
 # After the room for the output come the answer, its number of mismatches, and the output. In a listing of the five, a line of a quorum of
 # three has 45 bytes. The last line has 23 bytes, unless it is "end".
 TWO_LISTED = "".join(map(listed, ["0.0+0.1+1.0", "0.0+0.1+2.0"])) + "more after 0.0+0.1+2.0\n"
 ONE_LISTED = listed("0.0+0.1+1.0") + "more after 0.0+0.1+1.0\n"
-OF_FOUR = ["0.0+0.1+1.0", "0.0+0.1+2.0", "1.0+2.0"]
 AS_EXPECTED = "".join(compared(it, "as expected") for it in OF_FOUR) + "end\n"
 OTHERS = "".join(compared(it, "other secret") for it in OF_FOUR) + "end\n"
 DRILLED: List[Row] = [
@@ -699,8 +699,6 @@ TOLD: List[Row] = [
 
 
 Output = Union[str, bytes, List[str]]
-# The line of a call, and the line that the driver must write.
-Made = Tuple[str, str]
 
 
 @dataclass(frozen=True)
@@ -771,7 +769,7 @@ def wanted(answer: Answer, output: bytes = b"", mismatches: int = 0, fields: Seq
     return " ".join([*map(str, numbers), output.hex()])
 
 
-def calls_of(it: Example) -> Iterator[Made]:
+def calls_of(it: Example) -> Iterator[driver.Made]:
     """Yields the calls of an example, and what is wanted."""
     room = it.room
     if room is None:
@@ -789,7 +787,7 @@ def calls_of(it: Example) -> Iterator[Made]:
         yield from calls_of(example("text", fields, DONE, it.answer.told))
 
 
-def flags() -> Iterator[Made]:
+def flags() -> Iterator[driver.Made]:
     """Yields new backups with and without the flag. A greater number is refused before anything else."""
     for flag in [0, 1]:
         [share] = plain.create(plain.parse_plan("1of1"), SECRET, KEY.encode(), 0, flag == 1, ONE_RANDOM)
@@ -800,25 +798,12 @@ def flags() -> Iterator[Made]:
             yield driver.line("create", given, ROOM), wanted(Answer(2, "number out of range"))
 
 
-def wiped() -> Iterator[Made]:
+def wiped() -> Iterator[driver.Made]:
     """Yields buffers of which every byte is cleared, and no byte before or after it."""
     yield driver.line("wipe", [None], None), wanted(DONE)
     for length in range(ROOM - 1):
         yield driver.line("wipe", [bytes([MARK]) * length], length), wanted(DONE, bytes(length))
 
 
-def calls() -> List[Made]:
+def calls() -> List[driver.Made]:
     return [call for it in examples() for call in calls_of(it)] + [*flags(), *wiped()]
-
-
-def check(program: Sequence[str], made: Sequence[Made]) -> None:
-    """Makes calls by a driver, and says which of them it answers otherwise."""
-    compare(made, driver.answers(program, [line for line, _ in made]))
-
-
-def compare(made: Sequence[Made], found: Sequence[str]) -> None:
-    """Says which calls are answered otherwise. What a line must be can be its beginning."""
-    wrong = [(line, right, one) for (line, right), one in zip(made, found) if not one.startswith(right) or one.endswith("changed")]
-    if wrong or len(found) != len(made):
-        told = [f"{line[:SHOWN]}\n  gives  {one[:SHOWN]}\n  wanted {right[:SHOWN]}" for line, right, one in wrong]
-        raise driver.Failed("\n".join([f"{len(found)} calls of {len(made)} are answered, {len(wrong)} of them otherwise", *told]))

@@ -85,16 +85,13 @@ def of_symbols(folder: str) -> str:
 def of_answers(made: List[str], folder: str) -> str:
     """Compares the answers of the library with those of libshamir.so."""
     program = linked(driver.SOURCE, f"{folder}/driver", *builds.STRICT)
-    right = builds.answers(None, builds.native(folder), made)
-    told = agreement.difference("arm64", made, driver.answers(program, made), right)
-    if told:
-        raise Failed(told)
+    driver.check(program, [*zip(made, builds.answers(None, builds.native(folder), made))])
     return f"{len(made)} generated calls give the answers of libshamir.so"
 
 
 def of_examples(folder: str) -> str:
     """Runs the vectors in test.c and the worked examples."""
-    worked.check(linked(driver.SOURCE, f"{folder}/driver"), worked.calls())
+    driver.check(linked(driver.SOURCE, f"{folder}/driver"), worked.calls())
     return run(linked(ROOT / "dist" / "c" / "test.c", f"{folder}/vectors")).decode().strip()
 
 

@@ -91,8 +91,8 @@ def refuses_without_memory(folder: str) -> None:
     refused = [(line, worked.wanted(NO_MEMORY)) for line, _ in made] + [*worked.calls_of(told)][:2]
     for words in [["-O2"], ["-O0", *builds.SANITIZED]]:
         program = driver.built(f"{folder}/driver", ["gcc"], *words, f"-I{builds.DIST}", str(builds.HERE / "no_memory.c"))
-        worked.check(["env", "ASAN_OPTIONS=detect_leaks=0", program], made)
-        worked.check(["env", "ASAN_OPTIONS=detect_leaks=0", "EMPTY=1", program], refused)
+        driver.check(["env", "ASAN_OPTIONS=detect_leaks=0", program], made)
+        driver.check(["env", "ASAN_OPTIONS=detect_leaks=0", "EMPTY=1", program], refused)
 
 
 def stops_at_an_overflow(folder: str) -> None:
@@ -113,4 +113,4 @@ def stops_at_an_overflow(folder: str) -> None:
 
 def has_worked_examples(folder: str) -> None:
     """Makes the worked examples with the library as plain C."""
-    worked.check([driver.built(f"{folder}/driver", ["gcc"], "-O2", f"-I{builds.DIST}", builds.compiled("gcc", "-O2"))], worked.calls())
+    driver.check([driver.built(f"{folder}/driver", ["gcc"], "-O2", f"-I{builds.DIST}", builds.compiled("gcc", "-O2"))], worked.calls())
