@@ -1,4 +1,4 @@
-// tools/module runs this with Node. It makes calls of bindings/js, and writes what the command shamir would print.
+// tools/javascript runs this with Node. It makes calls of bindings/js, and writes what the command shamir would print.
 //
 //     node tools/module.mjs MODULE.wasm
 //
