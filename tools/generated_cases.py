@@ -120,7 +120,7 @@ def made(seed, kinds):
 
 
 def request(case):
-    """Returns a case as a line for the example."""
+    """Returns a case as a line for a reader."""
     kind, words, options = plain.parts(case.words)
     passphrase = options.get("passphrase", "")
     flag = {name: "1" if options.get(name) else "" for name in plain.FLAGS}
