@@ -85,7 +85,7 @@ def of_symbols(folder: str) -> str:
 def of_answers(made: List[str], folder: str) -> str:
     """Compares the answers of the library with those of libshamir.so."""
     program = linked(driver.SOURCE, f"{folder}/driver", *builds.STRICT)
-    driver.check(program, [*zip(made, builds.answers(None, builds.native(folder), made))])
+    driver.check(program, [*zip(made, driver.answers([builds.native(folder)], made))])
     return f"{len(made)} generated calls give the answers of libshamir.so"
 
 
