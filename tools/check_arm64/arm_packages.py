@@ -88,7 +88,7 @@ def check_library(folder: str, emulator: List[str], include: str, *library: str)
     compiler = [f"{TARGET}-gcc", "-std=c99", "-O1", f"-I{include}"]
     run([*compiler, str(ROOT / "dist/c/test.c"), *library, "-o", f"{folder}/linked"])
     run([*emulator, f"{folder}/linked"])
-    worked.check([*emulator, driver.built(f"{folder}/driver", compiler, *library)], worked.calls())
+    driver.check([*emulator, driver.built(f"{folder}/driver", compiler, *library)], worked.calls())
 
 
 def of_debs(folder: str, emulator: List[str]) -> str:

@@ -19,10 +19,11 @@ HERE = pathlib.Path(__file__).resolve().parent
 ROOT = HERE.parent.parent
 sys.path.insert(0, str(HERE.parent))
 
+import generated_cases  # noqa: E402
+import plain  # noqa: E402
+import shamir_h  # noqa: E402
 from left_out import is_here  # noqa: E402
-from tool import ran, tool, workers  # noqa: E402
-
-manual, module, rust = tool("manual"), tool("module"), tool("rust")
+from tool import ran  # noqa: E402
 
 HEADERS = ROOT / "include"
 COMPILERS = {"g++": "gcc", "clang++": "clang"}
@@ -41,13 +42,12 @@ MISUSED = {
 }
 # A cursor or names that aren't written in this form can't be given as pairs.
 NAMES = re.compile(r"(?:(?:0|[1-9]\d{0,8})\.(?:0|[1-9]\d{0,8})(?:\+(?!$)|$))*")
-BATCH = 50
 
 
 def check_calls():
     """Checks that the layer makes each call of the library."""
     made = set(re.findall(r"\bshamir_\w+(?=\()", (HEADERS / "shamir.hpp").read_text()))
-    missing = set(manual.calls_of_header(manual.HEADER.read_text())) - made
+    missing = set(shamir_h.calls()) - made
     if missing:
         sys.exit(f"include/shamir.hpp makes no call of {' and '.join(sorted(missing))}")
 
@@ -75,49 +75,16 @@ def check_compiler(compiler, folder):
 
 def can_be_said(case):
     """Returns whether a case gives its names as pairs."""
-    _, words, options = module.parts(case.words)
+    _, words, options = plain.parts(case.words)
     after = options.get("after")
     return NAMES.fullmatch(words[1] if case.words[0] == "reissue" else "" if after is None else after or "-") is not None
-
-
-def expected(case):
-    """Returns what the layer gives: what the command writes, and its refusal without the name of the command. A line of its own has no number."""
-    output, told, _ = case.expected
-    told = told.removeprefix("shamir: ").removesuffix("\n")
-    return output, told.removeprefix("line 1: ") if case.words[0] in ("show", "repair") else told
-
-
-def differences(batch):
-    """Returns how many cases of a batch were tried, and what differs, as texts."""
-    numbers, seed, program = batch
-    cases = [(number, module.made(f"{seed}/{number}", list(module.KINDS))) for number in numbers]
-    cases = [(number, case) for number, case in cases if can_be_said(case)]
-    lines = "".join(rust.request(case) + "\n" for _, case in cases)
-    done = subprocess.run([program], input=lines, capture_output=True, text=True)
-    answers = done.stdout.splitlines()
-    if done.returncode or len(answers) != len(cases):
-        return 0, [f"answers.cpp ends with status {done.returncode} after {len(answers)} of {len(cases)} cases: {done.stderr}"]
-    found = []
-    for (number, case), answer in zip(cases, answers):
-        output, told = (bytes.fromhex(part[1:]).decode() for part in answer.split(" "))
-        if (output, told) != expected(case):
-            what = f"case {number} differs: {' '.join(map(repr, case.words))}\ninput: {case.data!r}"
-            found.append(f"{what}\nshamir.hpp: {output!r} {told!r}\nplain: {case.expected!r}")
-    return len(cases), found
 
 
 def check_cases(compiler, folder, count, seed):
     """Compares generated cases, and returns how many."""
     program = f"{folder}/answers"
     ran([compiler, "-std=c++17", *STRICT, *SANITIZED, HERE / "answers.cpp", ROOT / "libshamir.a", "-o", program])
-    batches = [(range(at, min(at + BATCH, count)), seed, program) for at in range(0, count, BATCH)]
-    tried = 0
-    with workers() as pool:
-        for more, found in pool.map(differences, batches):
-            tried += more
-            if found:
-                sys.exit(found[0])
-    return tried
+    return generated_cases.compare_all([generated_cases.Reader("shamir.hpp", [program], takes=can_be_said)], count, seed)
 
 
 def main():

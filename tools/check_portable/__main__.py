@@ -22,13 +22,14 @@ import platform
 import shutil
 import sys
 import tempfile
-from typing import Callable, List, Optional
+from typing import Callable, List, Optional, Tuple
 
 sys.dont_write_bytecode = True
 sys.path[:0] = [str(pathlib.Path(__file__).resolve().parent), str(pathlib.Path(__file__).resolve().parents[1])]
 
 import agreement  # noqa: E402
 import builds  # noqa: E402
+import driver  # noqa: E402
 import install  # noqa: E402
 import sources  # noqa: E402
 import speed  # noqa: E402
@@ -47,7 +48,7 @@ def with_programs(what: str, programs: List[str], check: Callable[[str], Optiona
 def builds_to_compare(calls: List[str], right: List[str]) -> List[Part]:
     """Returns a part for each build whose answers are compared with those of the native library."""
     count = len(calls)
-    groups = [
+    groups: List[Tuple[List[builds.Target], int, Callable[..., None]]] = [
         (builds.EMULATED, count, agreement.agreed_with_vectors),
         (builds.SANITIZERS, agreement.SANITIZED, agreement.agreed),
         (builds.THREADS, agreement.THREADED, agreement.agreed_in_threads),
@@ -117,7 +118,7 @@ def check(count: int, seed: int, only: List[str]) -> None:
     """Runs the parts whose names have one of these words."""
     calls = agreement.calls_of(count, seed)
     with tempfile.TemporaryDirectory() as folder:
-        right = builds.answers(None, builds.native(folder), calls)
+        right = driver.answers([builds.native(folder)], calls)
     parts = [it for it in [*builds_to_compare(calls, right), *other_parts()] if any(word in it.name for word in only)]
     if not all_pass(parts):
         sys.exit("tools/check_portable: something is wrong")

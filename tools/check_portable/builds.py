@@ -7,7 +7,7 @@ import subprocess
 import threading
 from collections import defaultdict
 from dataclasses import dataclass, field
-from typing import DefaultDict, Dict, List, Optional, Tuple
+from typing import DefaultDict, Dict, List, Optional, Set, Tuple
 
 import driver
 from driver import Failed as Failed
@@ -87,6 +87,11 @@ def run(words: List[str], **options: object) -> bytes:
     return output
 
 
+def symbols(path: str, *options: str, nm: str = "nm") -> Set[str]:
+    """Returns the symbols of a compiled file that nm shows with these options, without their versions."""
+    return {line.split()[-1].partition("@")[0] for line in run([nm, *options, path]).decode().splitlines()}
+
+
 LOCKS: DefaultDict[Tuple[str, ...], threading.Lock] = defaultdict(threading.Lock)
 
 
@@ -128,13 +133,8 @@ def native(folder: str) -> str:
     return driver.built(f"{folder}/native", ["gcc", "-O1", f"-I{ROOT}/include"], *library)
 
 
-def words_of(target: Optional[Target], program: str, folder: str) -> List[str]:
+def words_of(target: Target, program: str, folder: str) -> List[str]:
     """Returns the words that run a program that was built, with its emulator."""
-    emulator = target.emulator() if target else None
-    environment = {**(target.environment if target else {}), "WINEPREFIX": f"{folder}/wine"}
+    emulator = target.emulator()
+    environment = {**target.environment, "WINEPREFIX": f"{folder}/wine"}
     return ["env", *(f"{name}={value}" for name, value in environment.items()), *([emulator] if emulator else []), program]
-
-
-def answers(target: Optional[Target], program: str, calls: List[str], *how: str, folder: str = "") -> List[str]:
-    """Makes calls with a program that was built, and returns the line that it writes for each."""
-    return driver.answers(words_of(target, program, folder), calls, *how)
