@@ -50,7 +50,7 @@ def check_fails(what: str, words: Sequence[Union[str, pathlib.Path]], told: str,
     """Checks that a command fails, and that its errors have this text, or begin with it."""
     done = subprocess.run(words, capture_output=True, text=True, **options)
     if done.returncode == 0 or not (done.stderr.startswith(told) if first else told in done.stderr):
-        sys.exit(f"{what} ends with status {done.returncode}, {done.stderr!r}")
+        raise Failed(f"{what} ends with status {done.returncode}, {done.stderr!r}")
 
 
 def tested(words: Sequence[Union[str, pathlib.Path]], **options: Any) -> str:

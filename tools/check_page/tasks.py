@@ -3,7 +3,7 @@
 The values that the page must show are from outside (tools/samples.py).
 """
 from browsers import Failed
-from samples import FINGERPRINT, PASSPHRASE, SECRET, SOUND_PAPER, THREE_GROUPS, check_papers_of, fingerprint_of, name_of, swappable, swapped, with_words
+from samples import FINGERPRINT, PASSPHRASE, SECRET, THREE_GROUPS, check_papers_of, fingerprint_of, name_of, swappable, swapped, with_words
 from texts import counted, say
 
 

@@ -1,6 +1,5 @@
 """Checks what vectors/README.md says: its kinds and counts, its example, and how Electrum answers. Checks the files by the schema."""
 import collections
-import json
 import re
 import sys
 
