@@ -18,6 +18,7 @@ import looks
 import planted
 import privacy
 import refusals
+import samples
 import second_thoughts
 import sources
 import steps
@@ -223,7 +224,7 @@ if not webkit.missing():
 
 def hidden_words(page):
     tasks.begin(page, "damaged")
-    tasks.type_damaged(page, tasks.SOUND_PAPER.replace("agency", "?"))
+    tasks.type_damaged(page, samples.SOUND_PAPER.replace("agency", "?"))
     page.wait(lambda: tasks.found_words(page), "the words that fit")
     looks.check_hidden_words(page)
 
