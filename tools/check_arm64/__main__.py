@@ -139,7 +139,7 @@ def checks(made: Callable[[], List[str]], runs: int, seed: int) -> Dict[str, Cal
         "symbols": of_symbols,
         "examples": of_examples,
         "packages": functools.partial(arm_packages.check, EMULATOR),
-        "texts": functools.partial(of_program, [str(ROOT / "tools" / "texts")]),
+        "texts": functools.partial(of_program, [str(ROOT / "tools" / "texts"), "--built", str(BUILT / "shamir")]),
     }
 
 
