@@ -107,9 +107,9 @@ def options_of(program: Union[str, pathlib.Path], *words: str) -> Set[str]:
     return set(re.findall(r"^ +(?:-\w, )?(--[a-z-]+)", ran([program, *words, "--help"]), re.MULTILINE))
 
 
-def symbols_of(program: Union[str, pathlib.Path], *options: str) -> Set[str]:
-    """Returns the dynamic symbols of a program that nm shows with these options, without their versions."""
-    return {line.split()[-1].partition("@")[0] for line in ran(["nm", "-D", *options, program]).splitlines()}
+def symbols_of(file: Union[str, pathlib.Path], *options: str, nm: str = "nm") -> Set[str]:
+    """Returns the symbols of a compiled file that nm shows with these options, without their versions."""
+    return {line.split()[-1].partition("@")[0] for line in ran([nm, *options, file]).splitlines()}
 
 
 def faults_library(folder: str, compiler: Sequence[str]) -> str:

@@ -35,6 +35,7 @@ import worked  # noqa: E402
 from builds import Failed, run  # noqa: E402
 from left_out import is_here, left_out  # noqa: E402
 from parts import Part, all_pass, in_folder  # noqa: E402
+from tool import symbols_of  # noqa: E402
 
 TARGET = "aarch64-linux-gnu"
 BUILT = ROOT / "out" / TARGET
@@ -73,7 +74,7 @@ def linked(source: pathlib.Path, to: str, *options: str) -> List[str]:
 def of_symbols(folder: str) -> str:
     """Sees that the shared library exports the calls of the header alone, and takes little of the C library."""
     wanted = set(shamir_h.calls())
-    names = {it: builds.symbols(str(BUILT / "libshamir.so.1"), "-D", f"--{it}-only", nm=f"{TARGET}-nm") for it in ["defined", "undefined"]}
+    names = {it: symbols_of(BUILT / "libshamir.so.1", "-D", f"--{it}-only", nm=f"{TARGET}-nm") for it in ["defined", "undefined"]}
     if names["defined"] - {"SHAMIR_1"} != wanted:
         raise Failed(f"libshamir.so exports {sorted(names['defined'] ^ wanted)} or lacks them")
     strange = {it for it in names["undefined"] if not it.startswith(("_ITM_", "__cxa_finalize", "__gmon_start__"))} - LIBC

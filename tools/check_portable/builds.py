@@ -7,7 +7,7 @@ import subprocess
 import threading
 from collections import defaultdict
 from dataclasses import dataclass, field
-from typing import DefaultDict, Dict, List, Optional, Set, Tuple
+from typing import DefaultDict, Dict, List, Optional, Tuple
 
 import driver
 from driver import Failed as Failed
@@ -85,11 +85,6 @@ def run(words: List[str], **options: object) -> bytes:
         raise Failed(f"{' '.join(map(str, words))} ends with status {done.returncode}: {said}")
     output: bytes = done.stdout
     return output
-
-
-def symbols(path: str, *options: str, nm: str = "nm") -> Set[str]:
-    """Returns the symbols of a compiled file that nm shows with these options, without their versions."""
-    return {line.split()[-1].partition("@")[0] for line in run([nm, *options, path]).decode().splitlines()}
 
 
 LOCKS: DefaultDict[Tuple[str, ...], threading.Lock] = defaultdict(threading.Lock)

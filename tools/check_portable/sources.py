@@ -11,6 +11,7 @@ import driver
 import shamir_h
 import worked
 from builds import ROOT, Failed, run
+from tool import symbols_of
 
 LIBC = {"memcpy", "memmove", "memset", "malloc", "free"}
 # A compiler takes these for a position-independent file, and for guards that the system asks for by default.
@@ -43,7 +44,7 @@ def has_right_symbols(folder: str) -> None:
     calls = set(shamir_h.calls((builds.DIST / "shamir.h").read_text()))
     for option in ["-O2", "-Os", "-O0"]:
         file = builds.compiled("gcc", option)
-        exported, needed = (builds.symbols(file, "-g", f"--{it}-only") for it in ["defined", "undefined"])
+        exported, needed = (symbols_of(file, "-g", f"--{it}-only") for it in ["defined", "undefined"])
         if exported != calls:
             raise Failed(f"with {option}, shamir.c exports {sorted(exported ^ calls)} or lacks them")
         if needed - LIBC - OF_COMPILER:
