@@ -352,7 +352,7 @@ compare: shamir libshamir.so shamir32.wasm shamir.html
 	@tools/compare
 	@tools/library --kinds repair --cases 10000
 	@tools/command --lines 5000
-	@tools/module
+	@tools/javascript --cases 10000
 	@$(PYTHON) tools/check_page --cases 200 agreement
 	@$(PYTHON) tools/check_papers --cases 300 agreement
 

@@ -1,6 +1,6 @@
 """Makes lines of damaged papers: mnemonics of which words can't be read, are misread or exchanged, or are missing. Their words are
-20 to 59, or 110, with both values of the extendable flag, and some have bad padding or bad thresholds. tools/compare and tools/module
-use these lines.
+20 to 59, or 110, with both values of the extendable flag, and some have bad padding or bad thresholds. tools/compare and
+tools/generated_cases.py use these lines.
 """
 import plain
 

@@ -1,18 +1,19 @@
 """Calls of the library as lines that tools/check_portable/driver.c reads, and what it answers."""
-import pathlib
 import subprocess
-from typing import List, Optional, Sequence, Union
+from typing import List, Optional, Sequence, Tuple, Union
 
-ROOT = pathlib.Path(__file__).resolve().parent.parent
+from tool import ROOT as ROOT
+from tool import Failed as Failed
+
 SOURCE = ROOT / "tools" / "check_portable" / "driver.c"
 STRICT = ["-std=c99", "-Wall", "-Wextra", "-Wconversion", "-Werror"]
 
 # Bytes or a text, a number, or NULL.
 Argument = Union[bytes, str, int, None]
-
-
-class Failed(Exception):
-    """What is wrong, such as a program that ends with another status than 0."""
+# The line of a call, and the line that the driver must write, or its beginning.
+Made = Tuple[str, str]
+# A message has so many calls, and shows so much of each line.
+MOST, SHOWN = 10, 3000
 
 
 class Secret(bytes):
@@ -45,3 +46,14 @@ def answers(program: Sequence[str], lines: Sequence[str], *how: str) -> List[str
     if done.returncode:
         raise Failed(f"{' '.join([*program, *how])} ends with status {done.returncode}: {done.stderr}")
     return done.stdout.splitlines()
+
+
+def check(program: Sequence[str], made: Sequence[Made], *how: str) -> List[str]:
+    """Makes calls with the program, and says which of them it answers otherwise. Returns the lines that it writes after the answers."""
+    found = answers(program, [line for line, _ in made], *how)
+    wrong = [(line, right, one) for (line, right), one in zip(made, found) if not one.startswith(right) or one.endswith("changed")]
+    # One line more says how much of the stack was touched.
+    if wrong or len(found) != len(made) + ("stack" in how):
+        told = [f"{line[:SHOWN]}\n  gives  {one[:SHOWN]}\n  wanted {right[:SHOWN]}" for line, right, one in wrong[:MOST]]
+        raise Failed("\n".join([f"{len(found)} lines answer {len(made)} calls, {len(wrong)} of them otherwise than they must", *told]))
+    return found[len(made) :]

@@ -1,4 +1,5 @@
 """Says in one form what a check leaves out. Whoever runs checks can count the lines that begin with `left out: `."""
+import functools
 import re
 import shutil
 import subprocess
@@ -16,6 +17,15 @@ def is_here(program, without):
         return True
     left_out(f"{program} isn't here, so {without}")
     return False
+
+
+@functools.cache
+def has_version(program, *least):
+    """Returns whether a program is here, in a version of at least these two numbers."""
+    if not shutil.which(program):
+        return False
+    found = re.search(r"(\d+)\.(\d+)", subprocess.run([program, "--version"], capture_output=True, text=True).stdout)
+    return found is not None and tuple(map(int, found.groups())) >= least
 
 
 def say_skipped(verbose):

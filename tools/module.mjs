@@ -1,15 +1,21 @@
-// tools/module runs this with Node. It makes calls of bindings/js, and writes what the command shamir would print.
+// tools/javascript runs this with Node. It makes calls of bindings/js, and writes what the command shamir would print.
 //
 //     node tools/module.mjs MODULE.wasm
 //
-// Each line of the input is a command: its kind, its words, its options, and its input in base64. Each line of the output has what
-// the command writes to standard output and to standard error.
+// tools/generated_cases.py says what the lines of the input and of the output are.
 import { readFileSync } from "node:fs";
 import { createInterface } from "node:readline";
 import { load, OF_GROUPS, Refusal } from "../bindings/js/shamir.js";
 
 const shamir = await load(readFileSync(process.argv[2]));
 const hex = (bytes) => Buffer.from(bytes).toString("hex");
+const valueOf = (word) => (word === "-" ? undefined : new Uint8Array(Buffer.from(word.slice(1), "hex")));
+const text = (value) => value && Buffer.from(value).toString();
+// An empty passphrase is left out.
+const passphraseOf = (value) => text(value) || undefined;
+const isSet = (value) => value.length > 0;
+const number = (value) => Number(text(value));
+const encryptedOf = (id, flag, exponent, value) => ({ id: number(id), extendable: isSet(flag), exponent: number(exponent), value });
 const ended = (lines) => lines.map((line) => `${line}\n`).join("");
 const fieldsText = (share) =>
   `identifier ${share.id} extendable ${Number(share.extendable)} exponent ${share.exponent} group ${share.groupIndex} ` +
@@ -17,59 +23,60 @@ const fieldsText = (share) =>
   `member-threshold ${share.memberThreshold}`;
 
 const COMMANDS = {
-  show(words, options, data) {
-    const share = shamir.parse(data);
+  show(line) {
+    const share = shamir.parse(line);
     return ended([`${fieldsText(share)} value ${hex(share.value)}`]);
   },
-  repair(words, options, line) {
+  repair(line) {
     return ended(shamir.repair(line));
   },
-  words([letters]) {
-    return ended(shamir.words(letters));
+  words(letters) {
+    return ended(shamir.words(text(letters)));
   },
-  create([plan], options, random) {
-    const { passphrase, extendable = false, exponent = 0 } = options;
-    const secret = Buffer.from(options["master-secret"], "hex");
-    return ended(shamir.create(plan, secret, { passphrase, extendable, exponent: Number(exponent), random }));
+  create(plan, secret, passphrase, exponent, flag, random) {
+    const options = { passphrase: passphraseOf(passphrase), extendable: isSet(flag), exponent: number(exponent), random };
+    return ended(shamir.create(text(plan), secret, options));
   },
-  recover(words, { passphrase, fingerprint, expect }, lines) {
-    const secret = shamir.recover(lines, { passphrase, expect });
-    return ended([fingerprint ? shamir.fingerprint(secret) : hex(secret)]);
+  recover(passphrase, expect, flag, lines) {
+    const secret = shamir.recover(lines, { passphrase: passphraseOf(passphrase), expect: text(expect) });
+    return ended([isSet(flag) ? shamir.fingerprint(secret) : hex(secret)]);
   },
-  encrypted(words, options, lines) {
+  encrypted(lines) {
     const { id, extendable, exponent, value } = shamir.encrypted(lines);
     return `identifier ${id} extendable ${Number(extendable)} exponent ${exponent} value ${hex(value)}\n`;
   },
-  decrypt(words, { id, extendable = false, exponent, passphrase, expect }, value) {
-    return ended([hex(shamir.decrypt({ id: Number(id), extendable, exponent: Number(exponent), value }, { passphrase, expect }))]);
+  decrypt(id, flag, exponent, passphrase, expect, value) {
+    const options = { passphrase: passphraseOf(passphrase), expect: text(expect) };
+    return ended([hex(shamir.decrypt(encryptedOf(id, flag, exponent, value), options))]);
   },
-  decrypt_round([round], { id, extendable = false, exponent, passphrase }, value) {
-    return ended([hex(shamir.decryptRound({ id: Number(id), extendable, exponent: Number(exponent), value }, Number(round), { passphrase }))]);
+  decrypt_round(round, id, flag, exponent, passphrase, value) {
+    const options = { passphrase: passphraseOf(passphrase) };
+    return ended([hex(shamir.decryptRound(encryptedOf(id, flag, exponent, value), number(round), options))]);
   },
-  drill(words, { passphrase, after, limit = Infinity, fingerprint = false, expect }, lines) {
+  drill(passphrase, after, expect, limit, flag, lines) {
+    const options = { passphrase: passphraseOf(passphrase), after: text(after), fingerprints: isSet(flag), expect: text(expect) };
     const listed = [];
-    for (const outcome of shamir.drill(lines, { passphrase, after, fingerprints: fingerprint, expect })) {
-      if (listed.length >= Number(limit)) return ended([...listed, `more after ${listed.at(-1).split(" ")[0]}`]);
+    for (const outcome of shamir.drill(lines, options)) {
+      if (listed.length >= number(limit)) return ended([...listed, `more after ${listed.at(-1).split(" ")[0]}`]);
       listed.push(`${outcome.names} ${outcomeText(outcome)}`);
     }
     return ended([...listed, "end"]);
   },
-  status(words, options, lines) {
+  status(lines) {
     return statusText(shamir.status(lines));
   },
-  judge([digits], options, lines) {
-    const { share, again, status } = shamir.judge(lines, new Uint8Array(Buffer.from(digits, "hex")));
+  judge(line, lines) {
+    const { share, again, status } = shamir.judge(lines, line);
     return ended([`${again ? "again" : "new"} ${fieldsText(share)}`]) + statusText(status);
   },
-  reissue([plan, names], options, lines) {
-    return ended(shamir.reissue(plan, names, lines));
+  reissue(plan, names, lines) {
+    return ended(shamir.reissue(text(plan), text(names), lines));
   },
-  create_from_encrypted([plan], { id, extendable = false, exponent, random }, value) {
-    const encrypted = { id: Number(id), extendable, exponent: Number(exponent), value };
-    return ended(shamir.createFromEncrypted(plan, encrypted, { random: new Uint8Array(Buffer.from(random, "hex")) }));
+  create_from_encrypted(plan, id, flag, exponent, random, value) {
+    return ended(shamir.createFromEncrypted(text(plan), encryptedOf(id, flag, exponent, value), { random }));
   },
-  resplit([plan], { random }, lines) {
-    return ended(shamir.resplit(plan, lines, { random: new Uint8Array(Buffer.from(random, "hex")) }));
+  resplit(plan, random, lines) {
+    return ended(shamir.resplit(text(plan), lines, { random }));
   },
 };
 
@@ -86,13 +93,14 @@ function outcomeText({ secret, fingerprint, expected, mismatch }) {
   return fingerprint ?? hex(secret);
 }
 
-function answer({ kind, words, options, data }) {
+function answer(line) {
+  const [command, ...words] = line.split(" ");
   try {
-    return [COMMANDS[kind](words, options, new Uint8Array(Buffer.from(data, "base64"))), ""];
+    return [COMMANDS[command](...words.map(valueOf)), ""];
   } catch (error) {
     if (!(error instanceof Refusal)) throw error;
-    return ["", `shamir: ${kind === "show" || kind === "repair" ? "line 1: " : ""}${error.message}\n`];
+    return ["", error.message];
   }
 }
 
-for await (const line of createInterface({ input: process.stdin })) console.log(JSON.stringify(answer(JSON.parse(line))));
+for await (const line of createInterface({ input: process.stdin })) console.log(answer(line).map((part) => `.${hex(part)}`).join(" "));

@@ -1,22 +1,63 @@
-"""Packs what users of Python, Rust and JavaScript install, for tools/alone, tools/javascript, tools/rust and tools/dist. Nothing is left in the folders
-of the packages.
-"""
+"""Makes packages, and runs what they install, for the tools that pack and those that check what is packed. Nothing is left in the folders of the packages."""
 import os
 import pathlib
 import shutil
+import subprocess
+import sys
 import tempfile
 
-from tool import ROOT, mirrored, ran
+from left_out import is_here, python_with
+from tool import ROOT, mirrored, of_makefile, ran
 
 BINDINGS = ROOT / "bindings"
+# The other processor for which there are packages, and what makes those for Debian.
+ARM64 = "aarch64-linux-gnu"
+DEB_TOOLS = ["dpkg-deb", "dpkg-shlibdeps", "dpkg-gencontrol", "dpkg-gensymbols", "dpkg-architecture", "strip"]
 # The archive of the crate has these files, and the repository has the same.
 OF_CRATE = {"c/shamir.c": "dist/c/shamir.c", "c/shamir.h": "dist/c/shamir.h", "LICENSE": "LICENSE", "NOTICE": "NOTICE"}
 OF_CRATE |= {"tests/given/published_vectors": "crates/s39_tests_backups/src/published.rt"}
+# These variables in the environment change what make does, and which library the commands take.
+FOLDERS = ["BINDIR", "LIBDIR", "INCLUDEDIR", "MANDIR", "DOCDIR", "PAGEDIR", "PYTHONDIR", "BASHDIR", "ZSHDIR", "FISHDIR"]
+VARIABLES = {"DESTDIR", "PREFIX", *FOLDERS, "INSTALL", "LDCONFIG", "CFLAGS", "LDFLAGS", "MAKEFLAGS", "MFLAGS", "MAKELEVEL", "PYTHONPATH", "SHAMIR_LIBRARY"}
+# What the drill of examples/three-groups.txt lists.
+QUORUMS = ["0.0+0.1+1.0", "0.0+0.1+2.0", "0.0+0.2+1.0", "0.0+0.2+2.0", "0.1+0.2+1.0", "0.1+0.2+2.0", "1.0+2.0"]
+
+# A project that uses the library as plain C, where CMake installed it.
+USER = """
+cmake_minimum_required(VERSION 3.16)
+project(user C)
+find_package(shamir 1 REQUIRED)
+foreach(kind %s)
+  add_executable(with_${kind} %s)
+  target_link_libraries(with_${kind} PRIVATE shamir::${kind})
+endforeach()
+"""
 
 
 def only_one(folder, pattern):
     [found] = pathlib.Path(folder).glob(pattern)
     return found
+
+
+def made(folder, words, **how):
+    """Runs a tool that leaves packages in the folder which it gets last, and which isn't there yet. Returns them in order."""
+    pathlib.Path(folder).mkdir(parents=True)
+    ran([*words, str(folder)], **how)
+    return sorted(pathlib.Path(folder).iterdir())
+
+
+def put(result, make):
+    """Lets a function make a folder that isn't there yet. Once it is whole, puts it in place of the one that was there."""
+    with tempfile.TemporaryDirectory(dir=ROOT, prefix=f"{result.name}.") as name:
+        whole = pathlib.Path(name, "made")
+        make(whole)
+        shutil.rmtree(result, ignore_errors=True)
+        whole.rename(result)
+
+
+def interpreter(*more):
+    """Returns a Python that can build wheels, and has more modules if they are named, or None."""
+    return python_with("setuptools.command.bdist_wheel", *more) or python_with("setuptools", "wheel.bdist_wheel", *more)
 
 
 def python_sources(python, folder):
@@ -55,3 +96,61 @@ def npm_archive(folder):
         mirrored(pathlib.Path(top), [name for name in ["LICENSE", "NOTICE", "shamir32.wasm", "dist/shamir32.wasm"] if (ROOT / name).exists()])
         ran(["npm", "pack", "--pack-destination", str(folder)], cwd=f"{top}/bindings/js", env=npm_settings(top))
     return only_one(folder, "shamir-*.tgz")
+
+
+def install_by_cmake(source, built, settings, *words):
+    """Builds the library as plain C in a folder, tries it, and installs it, with these settings of the build and words of the installation."""
+    ran(["cmake", "-S", source, "-B", built, *settings])
+    ran(["cmake", "--build", built])
+    ran(["ctest", "--output-on-failure", "--test-dir", built])
+    ran(["cmake", "--install", built, *words])
+
+
+def use_by_cmake(program, folder, prefix, kinds):
+    """Builds a program in a new folder with each kind of the library that is installed there. Returns what it prints with each."""
+    pathlib.Path(folder).mkdir()
+    pathlib.Path(folder, "CMakeLists.txt").write_text(USER % (" ".join(kinds), program))
+    ran(["cmake", "-S", folder, "-B", f"{folder}/built", f"-DCMAKE_PREFIX_PATH={prefix}"])
+    ran(["cmake", "--build", f"{folder}/built"])
+    return [ran([f"{folder}/built/with_{kind}"]) for kind in kinds]
+
+
+def flags_of(pages, **variables):
+    """Returns the flags of the compiler that pkg-config finds in a folder, with these variables in its environment."""
+    return ran(["pkg-config", "--cflags", "--libs", "shamir"], env={**os.environ, "PKG_CONFIG_PATH": pages, **variables}).split()
+
+
+def kept(*without):
+    """Returns the environment without VARIABLES, which an outer make may have passed on, and without these."""
+    return {name: value for name, value in os.environ.items() if name not in {*VARIABLES, *without}}
+
+
+def check_papers(command, environment):
+    """Checks that shamir-papers runs where it is installed: its version, its help, and what it says where there is no terminal."""
+    how = {"env": environment, "stdin": subprocess.DEVNULL, "capture_output": True, "text": True}
+    told = [subprocess.run([*command, *words], **how) for words in (["--version"], ["new", "--help"], ["check"])]
+    version = f"shamir-papers {of_makefile('VERSION')}\n"
+    if [it.returncode for it in told] != [0, 0, 2] or told[0].stdout != version or "PLAN" not in told[1].stdout or "terminal" not in told[2].stderr:
+        sys.exit(f"shamir-papers where it is installed: {told}")
+
+
+def check_command(command, environment=None, examples=ROOT / "examples"):
+    """Checks that a command `shamir` runs where it is installed: its version, the drill of an example, and its first two quorums."""
+    words = ["drill", "--expect", "df41d8fe", "--passphrase-file", str(examples / "passphrase.txt")]
+    mnemonics, listed = (examples / "three-groups.txt").read_bytes(), [f"{names} as expected\n" for names in QUORUMS]
+    for given, lines in [
+        (["--version"], [f"shamir {of_makefile('VERSION')}\n"]),
+        (words, [*listed, "end\n"]),
+        ([*words, "--limit", "2"], [*listed[:2], f"more after {QUORUMS[1]}\n"]),
+    ]:
+        done = subprocess.run([*command, *given], env=environment, input=mnemonics, capture_output=True)
+        if (done.returncode, done.stdout, done.stderr) != (0, "".join(lines).encode(), b""):
+            sys.exit(f"the command shamir where it is installed: {done}")
+
+
+def check_lint(debs):
+    """Lets lintian look at packages for Debian."""
+    if is_here("lintian", f"it doesn't look at {', '.join(it.name for it in debs)}"):
+        done = subprocess.run(["lintian", "--allow-root", "--fail-on=error", "--no-cfg", *map(str, debs)], capture_output=True, text=True)
+        if done.returncode:
+            sys.exit(f"lintian: {done.stdout}{done.stderr}")

@@ -1,9 +1,9 @@
 """Checks the sources of bindings/rust without Cargo, for tools/rust."""
-import pathlib
 import re
 import sys
 
-ROOT = pathlib.Path(__file__).resolve().parent.parent
+from tool import ROOT
+
 CRATE = ROOT / "bindings" / "rust"
 HEADER = ROOT / "include" / "shamir.h"
 FOREIGN = "ffi.rs"

@@ -11,6 +11,8 @@ from dataclasses import dataclass
 from typing import Any, Iterator, List, Optional, Sequence, Tuple, Union
 
 import driver
+import shamir_h
+
 plain: Any = importlib.import_module("plain")
 
 ROOM = 1024
@@ -158,6 +160,22 @@ CREATED: List[Row] = [
     ("1of1", SECRET, None, 0, bytes(3), Answer(43, "random bytes: 2 needed", first=2), []),
 ]
 
+# Each call that takes the lines of a backup refuses these, if nothing before them is refused.
+REFUSED_LINES: List[Row] = [
+    ([], Answer(29, "no shares")),
+    ([""], Answer(29, "no shares")),
+    ([ONE_WRONG], Answer(13, "bad checksum", line=1)),
+    ([FIVE_3, ONE_WRONG], Answer(13, "bad checksum", line=2)),
+    (["# a note", ONE_WRONG], Answer(13, "bad checksum", line=2)),
+    ([OLD_0, "academia"], Answer(11, "unknown word 1", line=2, first=1)),
+    ([FIVE_0, "#", "academia"], Answer(11, "unknown word 1", line=3, first=1)),
+    (["", "#", "academic x"], Answer(11, "unknown word 2", line=3, first=2)),
+    ([TWO_0, ONE], Answer(21, "other identifier", line=2)),
+    ([OLD_0, ONE], Answer(21, "other identifier", line=2)),
+    ([FIVE_0, FORGED_0], Answer(28, "conflicting share 0.0", line=2)),
+    (["#" * 1025], Answer(71, "line too long", line=1)),
+]
+
 RECOVERED: List[Row] = [
     ([ONE], KEY, 0, None, DONE, SECRET),
     ([TWO_2, TWO_0], KEY, 2, None, DONE, TWO_SECRET),
@@ -171,15 +189,9 @@ RECOVERED: List[Row] = [
     (FIVE, KEY, 15, None, DONE, SECRET),
     ([FIVE_3, "", "# a note", FIVE_4], KEY, 15, None, DONE, SECRET),
     ([ONE], None, 0, None, DONE, OTHER_SECRET),
-    ([ONE_WRONG], KEY, 0, None, Answer(13, "bad checksum", line=1), ""),
-    ([FIVE_3, ONE_WRONG], KEY, 0, None, Answer(13, "bad checksum", line=2), ""),
-    (["# a note", ONE_WRONG], None, 0, None, Answer(13, "bad checksum", line=2), ""),
-    (["", "#", "academic x"], None, 0, None, Answer(11, "unknown word 2", line=3, first=2), ""),
-    ([TWO_0, ONE], KEY, 15, None, Answer(21, "other identifier", line=2), ""),
     ([TWO_0], KEY, 0, None, Answer(30, "incomplete: 0 of 1 groups", second=1), ""),
     ([UNEVEN_0, UNEVEN_1], None, 15, None, Answer(51, "digest mismatch in group 0"), ""),
     ([UNEVEN_GROUP_0, UNEVEN_GROUP_1], None, 15, None, Answer(51, "digest mismatch of groups", first=OF_GROUPS), ""),
-    ([], KEY, 0, None, Answer(29, "no shares"), ""),
     ([], "a\x07", 0, None, Answer(41, "passphrase byte 2 not printable", first=2), ""),
     ([ONE], KEY, 0, "df41d8fe", DONE, SECRET),
     (FIVE, KEY, 0, "DF41D8fe", DONE, SECRET),
@@ -227,11 +239,7 @@ ENCRYPTED: List[Row] = [
     ([FIVE_0, FIVE_1, FORGED_2, FIVE_3, FIVE_4], DONE, FIVE_ENCRYPTED, FIVE_KEPT),
     ([FORGED_0, FIVE_1, FIVE_2, FIVE_3, FIVE_4], Answer(51, "digest mismatch in group 0"), "", None),
     ([UNEVEN_GROUP_0, UNEVEN_GROUP_1], Answer(51, "digest mismatch of groups", first=OF_GROUPS), "", None),
-    ([FIVE_3, ONE_WRONG], Answer(13, "bad checksum", line=2), "", None),
-    ([TWO_0, ONE], Answer(21, "other identifier", line=2), "", None),
-    (["#" * 1025], Answer(71, "line too long", line=1), "", None),
     ([TWO_0], Answer(30, "incomplete: 0 of 1 groups", second=1), "", None),
-    ([], Answer(29, "no shares"), "", None),
 ]
 
 DECRYPTED: List[Row] = [
@@ -340,13 +348,15 @@ def compared(names: str, what: str) -> str:
     return f"{names} {what}\n"
 
 
-FIRST_PART = "".join(map(listed, ["0.0+0.1+1.0", "0.0+0.1+2.0", "0.0+0.2+1.0", "0.0+0.2+2.0"])) + "more after 0.0+0.2+2.0\n"
-LAST_PART = "".join(map(listed, ["0.1+0.2+1.0", "0.1+0.2+2.0", "1.0+2.0"])) + "end\n"
+# The quorums of FIVE, and those of FOUR.
+OF_FIVE = ["0.0+0.1+1.0", "0.0+0.1+2.0", "0.0+0.2+1.0", "0.0+0.2+2.0", "0.1+0.2+1.0", "0.1+0.2+2.0", "1.0+2.0"]
+OF_FOUR = ["0.0+0.1+1.0", "0.0+0.1+2.0", "1.0+2.0"]
+FIRST_PART = "".join(map(listed, OF_FIVE[:4])) + "more after 0.0+0.2+2.0\n"
+LAST_PART = "".join(map(listed, OF_FIVE[4:])) + "end\n"
 # After the room for the output come the answer, its number of mismatches, and the output. In a listing of the five, a line of a quorum of
 # three has 45 bytes. The last line has 23 bytes, unless it is "end".
 TWO_LISTED = "".join(map(listed, ["0.0+0.1+1.0", "0.0+0.1+2.0"])) + "more after 0.0+0.1+2.0\n"
 ONE_LISTED = listed("0.0+0.1+1.0") + "more after 0.0+0.1+1.0\n"
-OF_FOUR = ["0.0+0.1+1.0", "0.0+0.1+2.0", "1.0+2.0"]
 AS_EXPECTED = "".join(compared(it, "as expected") for it in OF_FOUR) + "end\n"
 OTHERS = "".join(compared(it, "other secret") for it in OF_FOUR) + "end\n"
 DRILLED: List[Row] = [
@@ -415,7 +425,6 @@ DRILLED: List[Row] = [
     (FIVE, KEY, 15, "1.0+2.0", 9, DIGITS, None, 3, Answer(1, "buffer too short: 4 bytes needed", first=4), 0, ""),
     ([UNEVEN_0, UNEVEN_1], None, 0, None, 9, DIGITS, None, 38, Answer(1, "buffer too short: 39 bytes needed", first=39), 0, ""),
     ([ONE], KEY, 0, None, 9, DIGITS, None, 40, Answer(1, "buffer too short: 41 bytes needed", first=41), 0, ""),
-    ([ONE_WRONG], KEY, 0, None, 9, DIGITS, None, ROOM, Answer(13, "bad checksum", line=1), 0, ""),
     ([], "a\x07", 0, "0.1+", 0, DIGITS, None, ROOM, Answer(2, "number out of range"), 0, ""),
     ([], "a\x07", 0, "0.1+", 1, DIGITS, None, ROOM, Answer(61, "bad cursor"), 0, ""),
     ([], "a\x07", 0, "0.1", 1, DIGITS, None, ROOM, Answer(41, "passphrase byte 2 not printable", first=2), 0, ""),
@@ -432,13 +441,8 @@ STATUSES: List[Row] = [
     ([FIVE_4, FIVE_2, "", FIVE_0, FIVE_2], done(2, 2), "groups 2 of 2\ngroup 0 members 2 of 2 0.0+0.2\ngroup 2 members 1 of 1 2.0\n"),
     ([FIVE_3, FIVE_0, FIVE_0], done(1, 2), "groups 1 of 2\ngroup 0 members 1 of 2 0.0\ngroup 1 members 1 of 1 1.0\n"),
     ([FIVE_2, FIVE_1, FIVE_0], done(1, 2), "groups 1 of 2\ngroup 0 members 3 of 2 0.0+0.1+0.2\n"),
-    ([FIVE_0, "#", "academia"], Answer(11, "unknown word 1", line=3, first=1), ""),
-    ([FIVE_0, FORGED_0], Answer(28, "conflicting share 0.0", line=2), ""),
     ([FIVE_0, FIVE_3, FIVE_0], done(1, 2), "groups 1 of 2\ngroup 0 members 1 of 2 0.0\ngroup 1 members 1 of 1 1.0\n"),
     (FIVE, done(3, 2), "groups 3 of 2\ngroup 0 members 3 of 2 0.0+0.1+0.2\ngroup 1 members 1 of 1 1.0\ngroup 2 members 1 of 1 2.0\n"),
-    ([FIVE_3, ONE_WRONG], Answer(13, "bad checksum", line=2), ""),
-    ([TWO_0, ONE], Answer(21, "other identifier", line=2), ""),
-    ([], Answer(29, "no shares"), ""),
 ]
 
 # The mnemonics that are there, and the one that is judged. After the output come the fields of the judgement.
@@ -503,11 +507,6 @@ QUORUMS: List[Row] = [
     ([FIVE_0, FIVE_1, FIVE_2, FIVE_3], done(3, 0)),
     (FOUR, done(3, 0)),
     ([FIVE_4, FIVE_0, FIVE_3], done(1, 0)),
-    ([FIVE_0, "#", "academia"], Answer(11, "unknown word 1", line=3, first=1)),
-    ([FIVE_0, FORGED_0], Answer(28, "conflicting share 0.0", line=2)),
-    ([FIVE_3, ONE_WRONG], Answer(13, "bad checksum", line=2)),
-    ([TWO_0, ONE], Answer(21, "other identifier", line=2)),
-    ([], Answer(29, "no shares")),
 ]
 
 # For the code 66, first is 256 * group + member, and second has four counts.
@@ -518,13 +517,8 @@ SPLIT_ANEW: List[Row] = [
     ("1of1", [HIGH_OLD_0, HIGH_OLD_2], bytes.fromhex("1234"), done(1, 0), [HIGH_NEW_ONE]),
     (None, ["academia"], None, Answer(31, "bad plan"), []),
     ("1of2", ["academia"], None, Answer(34, "one of many in plan group 0"), []),
-    (FIVE_PLAN, [ONE, "academia"], None, Answer(11, "unknown word 1", line=2, first=1), []),
-    (FIVE_PLAN, [OLD_0, ONE], None, Answer(21, "other identifier", line=2), []),
-    (FIVE_PLAN, [""], None, Answer(29, "no shares"), []),
     ("1of1", [OLD_0, OLD_2], bytes.fromhex("236a00"), Answer(43, "random bytes: 2 needed", first=2), []),
     ("2/2of3", ["academia"], None, Answer(32, "bad number of groups in plan"), []),
-    (FIVE_PLAN, [OLD_0, "academia"], None, Answer(11, "unknown word 1", line=2, first=1), []),
-    (FIVE_PLAN, None, None, Answer(29, "no shares"), []),
     (FIVE_PLAN, [OLD_0], None, Answer(30, "incomplete: 0 of 1 groups", second=1), []),
     (FIVE_PLAN, [OLD_0, OLD_FORGED_2], None, Answer(51, "digest mismatch in group 0"), []),
     (FIVE_PLAN, [ONE], None, Answer(67, "backup isn't extendable"), []),
@@ -572,8 +566,6 @@ REISSUED: List[Row] = [
     (FIVE_PLAN, "3.1", ["academia"], Answer(64, "name 3.1 not in plan", first=3, second=1), []),
     ("2of3", "1.0", ["academia"], Answer(64, "name 1.0 not in plan", first=1), []),
     ("2/2of3", "0.1+0.0", ["academia"], Answer(32, "bad number of groups in plan"), []),
-    (FIVE_PLAN, "0.1", [FIVE_0, "academia"], Answer(11, "unknown word 1", line=2, first=1), []),
-    (FIVE_PLAN, "0.1", [""], Answer(29, "no shares"), []),
     (FIVE_PLAN, "0.1", [FIVE_3, FIVE_4], Answer(66, "cannot tell 0.1: 0 of 2 members, 2 of 2 other groups", first=1, second=0x00020202), []),
     (FIVE_PLAN, "0.1", [FIVE_0, FIVE_3], Answer(66, "cannot tell 0.1: 1 of 2 members, 1 of 2 other groups", first=1, second=0x01020102), []),
     (FIVE_PLAN, "2.0", [FIVE_0, FIVE_1], Answer(66, "cannot tell 2.0: 0 of 1 members, 1 of 2 other groups", first=512, second=0x00010102), []),
@@ -584,10 +576,9 @@ REISSUED: List[Row] = [
     ("2/2of2,1of1,1of1", "0.0", [FIVE_1, FIVE_2], Answer(65, "other plan"), []),
     (FIVE_PLAN, "0.1+0.0", [FIVE_0, FIVE_1], Answer(63, "bad list of names"), []),
     (FIVE_PLAN, None, [ONE_WRONG], Answer(63, "bad list of names"), []),
+    (FIVE_PLAN, "0.0", [FIVE_0, ONE_WRONG], Answer(13, "bad checksum", line=2), []),
     (None, "0.1+0.0", [ONE_WRONG], Answer(31, "bad plan"), []),
     (FIVE_PLAN, "3.0", [ONE_WRONG], Answer(64, "name 3.0 not in plan", first=3), []),
-    (FIVE_PLAN, "0.0", [FIVE_0, ONE_WRONG], Answer(13, "bad checksum", line=2), []),
-    (FIVE_PLAN, "0.0", [], Answer(29, "no shares"), []),
     (FIVE_PLAN, "0.1", [FORGED_0, FORGED_2], Answer(51, "digest mismatch in group 0"), []),
     (FIVE_PLAN, "2.0", [FORGED_0, FORGED_2, FIVE_3], Answer(51, "digest mismatch in group 0"), []),
     (FIVE_PLAN, "2.0", [FIVE_0, FIVE_1, FORGED_3], Answer(51, "digest mismatch of groups", first=OF_GROUPS), []),
@@ -695,8 +686,6 @@ TOLD: List[Row] = [
 
 
 Output = Union[str, bytes, List[str]]
-# The line of a call, and the line that the driver must write.
-Made = Tuple[str, str]
 
 
 @dataclass(frozen=True)
@@ -746,8 +735,14 @@ def examples() -> Iterator[Example]:
         yield example("drill", [lines, key, most, after, limit, form, expected], answer, output, room=room, mismatches=mismatches)
     for lines, line, answer, output, fields in [*JUDGED, *judged_vectors()]:
         yield example("judge", [lines, line], answer, output, fields=fields or ())
-    for lines, answer in QUORUMS:
+    for lines, answer in [*QUORUMS, *REFUSED_LINES]:
         yield example("quorums", [lines], answer, room=0)
+    for lines, answer in REFUSED_LINES:
+        yield from (example(call, [lines], answer) for call in ("encrypted", "status"))
+        yield example("recover", [lines, KEY, 0, None], answer)
+        yield example("drill", [lines, KEY, 0, None, 9, DIGITS, None], answer)
+        yield example("reissue", [FIVE_PLAN, "0.1", lines], answer)
+        yield example("resplit", [FIVE_PLAN, lines, None], answer)
     for plan, names, lines, answer, output in REISSUED:
         yield example("reissue", [plan, names, lines], answer, output)
     for plan, lines, drawn, answer, output in SPLIT_ANEW:
@@ -756,15 +751,9 @@ def examples() -> Iterator[Example]:
         yield example("create_from_encrypted", [plan, *kept, value, drawn], answer, output)
     for call, table in [("status", STATUSES), ("fingerprint", FINGERPRINTED), ("words", WORDS), ("repair", REPAIRED)]:
         yield from (example(call, [given], answer, output) for given, answer, output in table)
-    yield example("version", [], DONE, version())
+    yield example("version", [], DONE, shamir_h.VERSION)
     for code, first, second, text in TOLD:
         yield example("text", [code, 0, 3, first, second, 0], DONE, text)
-
-
-def version() -> str:
-    header = (driver.ROOT / "include" / "shamir.h").read_text()
-    [found] = re.findall('^#define SHAMIR_VERSION "(.*)"$', header, re.MULTILINE)
-    return str(found)
 
 
 def wanted(answer: Answer, output: bytes = b"", mismatches: int = 0, fields: Sequence[int] = ()) -> str:
@@ -773,7 +762,7 @@ def wanted(answer: Answer, output: bytes = b"", mismatches: int = 0, fields: Seq
     return " ".join([*map(str, numbers), output.hex()])
 
 
-def calls_of(it: Example) -> Iterator[Made]:
+def calls_of(it: Example) -> Iterator[driver.Made]:
     """Yields the calls of an example, and what is wanted."""
     room = it.room
     if room is None:
@@ -791,7 +780,7 @@ def calls_of(it: Example) -> Iterator[Made]:
         yield from calls_of(example("text", fields, DONE, it.answer.told))
 
 
-def flags() -> Iterator[Made]:
+def flags() -> Iterator[driver.Made]:
     """Yields new backups with and without the flag. A greater number is refused before anything else."""
     for flag in [0, 1]:
         [share] = plain.create(plain.parse_plan("1of1"), SECRET, KEY.encode(), 0, flag == 1, ONE_RANDOM)
@@ -802,20 +791,12 @@ def flags() -> Iterator[Made]:
             yield driver.line("create", given, ROOM), wanted(Answer(2, "number out of range"))
 
 
-def wiped() -> Iterator[Made]:
+def wiped() -> Iterator[driver.Made]:
     """Yields buffers of which every byte is cleared, and no byte before or after it."""
     yield driver.line("wipe", [None], None), wanted(DONE)
     for length in range(ROOM - 1):
         yield driver.line("wipe", [bytes([MARK]) * length], length), wanted(DONE, bytes(length))
 
 
-def calls() -> List[Made]:
+def calls() -> List[driver.Made]:
     return [call for it in examples() for call in calls_of(it)] + [*flags(), *wiped()]
-
-
-def check(program: Sequence[str], made: Sequence[Made]) -> None:
-    """Makes calls by a driver, and says which of them it answers otherwise."""
-    found = driver.answers(program, [line for line, _ in made])
-    told = [f"{line}\n  gives  {one}\n  wanted {right}" for (line, right), one in zip(made, found) if one != right]
-    if told or len(found) != len(made):
-        raise driver.Failed("\n".join([f"{len(found)} worked examples of {len(made)} are answered, {len(told)} of them otherwise", *told]))

@@ -14,12 +14,8 @@ import argparse
 import functools
 import os
 import pathlib
-import re
 import shutil
-import subprocess
 import sys
-import tempfile
-from concurrent.futures import ThreadPoolExecutor
 from typing import Callable, Dict, List
 
 sys.dont_write_bytecode = True
@@ -33,9 +29,13 @@ import builds  # noqa: E402
 import calls  # noqa: E402
 import cases  # noqa: E402
 import driver  # noqa: E402
+import frames  # noqa: E402
+import shamir_h  # noqa: E402
 import worked  # noqa: E402
 from builds import Failed, run  # noqa: E402
-from left_out import left_out  # noqa: E402
+from left_out import is_here, left_out  # noqa: E402
+from parts import Part, all_pass, in_folder  # noqa: E402
+from tool import symbols_of  # noqa: E402
 
 TARGET = "aarch64-linux-gnu"
 BUILT = ROOT / "out" / TARGET
@@ -73,8 +73,8 @@ def linked(source: pathlib.Path, to: str, *options: str) -> List[str]:
 
 def of_symbols(folder: str) -> str:
     """Sees that the shared library exports the calls of the header alone, and takes little of the C library."""
-    wanted = set(re.findall(r"^(?:shamir_answer|void) (shamir_\w+)\(", (ROOT / "include" / "shamir.h").read_text(), re.MULTILINE))
-    names = {it: symbols(str(BUILT / "libshamir.so.1"), f"--{it}-only") for it in ["defined", "undefined"]}
+    wanted = set(shamir_h.calls())
+    names = {it: symbols_of(BUILT / "libshamir.so.1", "-D", f"--{it}-only", nm=f"{TARGET}-nm") for it in ["defined", "undefined"]}
     if names["defined"] - {"SHAMIR_1"} != wanted:
         raise Failed(f"libshamir.so exports {sorted(names['defined'] ^ wanted)} or lacks them")
     strange = {it for it in names["undefined"] if not it.startswith(("_ITM_", "__cxa_finalize", "__gmon_start__"))} - LIBC
@@ -83,24 +83,16 @@ def of_symbols(folder: str) -> str:
     return f"libshamir.so exports {len(wanted)} calls"
 
 
-def symbols(path: str, *options: str) -> "set[str]":
-    """Returns the dynamic symbols of a library that nm shows with these options, without their versions."""
-    return {line.split()[-1].partition("@")[0] for line in run([f"{TARGET}-nm", "-D", *options, path]).decode().splitlines()}
-
-
 def of_answers(made: List[str], folder: str) -> str:
     """Compares the answers of the library with those of libshamir.so."""
     program = linked(driver.SOURCE, f"{folder}/driver", *builds.STRICT)
-    right = builds.answers(None, builds.native(folder), made)
-    told = agreement.difference("arm64", made, driver.answers(program, made), right)
-    if told:
-        raise Failed(told)
+    driver.check(program, [*zip(made, driver.answers([builds.native(folder)], made))])
     return f"{len(made)} generated calls give the answers of libshamir.so"
 
 
 def of_examples(folder: str) -> str:
     """Runs the vectors in test.c and the worked examples."""
-    worked.check(linked(driver.SOURCE, f"{folder}/driver"), worked.calls())
+    driver.check(linked(driver.SOURCE, f"{folder}/driver"), worked.calls())
     return run(linked(ROOT / "dist" / "c" / "test.c", f"{folder}/vectors")).decode().strip()
 
 
@@ -130,14 +122,13 @@ def of_stack(folder: str) -> str:
 
 def of_frames(folder: str) -> str:
     """Adds up the frames of the functions that a call can reach."""
-    sizes = arm_frames.sizes_of(str(BUILT / "libshamir.a"), cases.CALLS)
-    deep = [f"shamir_{call} can reach {it.reached} bytes down, and clears {it.cleared}" for call, it in sizes.items() if it.reached > it.cleared]
+    deep = frames.too_deep(arm_frames.sizes_of(str(BUILT / "libshamir.a"), cases.CALLS))
     if deep:
         raise Failed("; ".join(deep))
     return "no call can reach further down than it clears"
 
 
-def parts(made: Callable[[], List[str]], runs: int, seed: int) -> Dict[str, Callable[[str], str]]:
+def checks(made: Callable[[], List[str]], runs: int, seed: int) -> Dict[str, Callable[[str], str]]:
     compare = [str(ROOT / "tools" / "compare"), "--cases", str(-(-runs // SEEDS)), "--seed"]
     return {
         "faults": of_faults,
@@ -149,19 +140,8 @@ def parts(made: Callable[[], List[str]], runs: int, seed: int) -> Dict[str, Call
         "symbols": of_symbols,
         "examples": of_examples,
         "packages": functools.partial(arm_packages.check, EMULATOR),
-        "texts": functools.partial(of_program, [str(ROOT / "tools" / "texts")]),
+        "texts": functools.partial(of_program, [str(ROOT / "tools" / "texts"), "--built", str(BUILT / "shamir")]),
     }
-
-
-def failure(part: "tuple[str, Callable[[str], str]]") -> str:
-    """Runs a part in a folder of its own. Returns what is wrong, or nothing."""
-    name, check = part
-    with tempfile.TemporaryDirectory() as folder:
-        try:
-            print(check(folder), flush=True)
-        except Failed as failed:
-            return f"{name}: {failed}"
-    return ""
 
 
 def main() -> None:
@@ -171,19 +151,15 @@ def main() -> None:
     words.add_argument("--seed", type=int, default=39)
     words.add_argument("--only", nargs="*")
     given = words.parse_args()
-    for program in [COMPILER, EMULATOR[0]]:
-        if not shutil.which(program):
-            left_out(f"{program} isn't here, so what is built for arm64 isn't checked")
-            return
+    if not all(is_here(it, "what is built for arm64 isn't checked") for it in [COMPILER, EMULATOR[0]]):
+        return
     left_out("valgrind doesn't run programs for arm64 here, so nothing looks for branches and addresses that depend on secrets there")
     left_out("a program under an emulator can't be traced, so nothing looks for what the program for arm64 leaves in its memory")
-    all_parts = parts(lambda: agreement.calls_of(given.cases, given.seed), given.runs, given.seed)
-    chosen = {name: it for name, it in all_parts.items() if not given.only or name.split()[0] in given.only}
-    with ThreadPoolExecutor(max_workers=len(os.sched_getaffinity(0))) as pool:
-        wrong = [told for told in pool.map(failure, chosen.items()) if told]
-    if wrong:
-        sys.exit("tools/check_arm64: something is wrong\n" + "\n".join(wrong))
-    print(f"arm64: {len(chosen)} parts passed")
+    every = checks(lambda: agreement.calls_of(given.cases, given.seed), given.runs, given.seed)
+    parts = [Part(name, in_folder(check)) for name, check in every.items() if not given.only or name.split()[0] in given.only]
+    if not all_pass(parts):
+        sys.exit("tools/check_arm64: something is wrong")
+    print(f"arm64: {len(parts)} parts passed")
 
 
 if __name__ == "__main__":

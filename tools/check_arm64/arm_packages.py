@@ -5,30 +5,25 @@ import os
 import pathlib
 import re
 import shutil
-import sys
 import zipfile
 from typing import Dict, List, Tuple
 
-sys.path.insert(0, str(pathlib.Path(__file__).resolve().parents[1]))
+import driver
+import packed
+import worked
+from builds import ROOT, Failed, run
+from left_out import left_out
 
-import driver  # noqa: E402
-import python_packages  # noqa: E402
-import worked  # noqa: E402
-from builds import ROOT, Failed, run  # noqa: E402
-from left_out import left_out  # noqa: E402
-
-TARGET = "aarch64-linux-gnu"
+TARGET = packed.ARM64
 NAMES_OF_PROCESSORS = [TARGET.encode(), b"x86_64-linux-gnu"]
 # What these are made of, and with.
 BUILT = ["shamir", "libshamir.a", "libshamir.so", "shamir.html"]
-NEEDED = ["dpkg-deb", "dpkg-shlibdeps", "dpkg-gencontrol", "dpkg-gensymbols", "dpkg-architecture", "strip", f"{TARGET}-strip", "md5sum"]
+NEEDED = [*packed.DEB_TOOLS, f"{TARGET}-strip", "md5sum"]
 # What differs in each package: its binaries, the sums of its files, and these fields of its control file.
 BINARIES = {"shamir": "usr/bin/shamir", "libshamir1": "usr/lib/*/libshamir.so.1.*", "libshamir-dev": "usr/lib/*/libshamir.a"}
 DESCRIBED = {"DEBIAN/control", "DEBIAN/md5sums"}
 OTHER_FIELDS = re.compile(r"^(Architecture|Installed-Size|Depends): (.*)\n", re.MULTILINE)
 WHEEL_BINARY = "shamir/libshamir.so"
-QUORUMS = ["0.0+0.1+1.0", "0.0+0.1+2.0", "0.0+0.2+1.0", "0.0+0.2+2.0", "0.1+0.2+1.0", "0.1+0.2+2.0", "1.0+2.0"]
-EXPECTED = "".join(f"{it} as expected\n" for it in QUORUMS) + "end\n"
 Held = Dict[str, Tuple[int, bytes]]
 
 
@@ -88,36 +83,12 @@ def check_package(ours: pathlib.Path, theirs: pathlib.Path, folder: str) -> None
     check_control(name, here, there, same if name == "libshamir-dev" else f"libc6 (>= {needed_glibc(binary)})")
 
 
-def check_program(root: str, emulator: List[str]) -> None:
-    """Drills a backup with the program of the package."""
-    examples = pathlib.Path(root, "usr/share/doc/shamir/examples")
-    words = ["drill", "--expect", "df41d8fe", "--passphrase-file", str(examples / "passphrase.txt")]
-    told = run([*emulator, f"{root}/usr/bin/shamir", *words], input=(examples / "three-groups.txt").read_bytes()).decode()
-    if told != EXPECTED:
-        raise Failed(f"the program of the package lists {told}")
-
-
 def check_library(folder: str, emulator: List[str], include: str, *library: str) -> None:
     """Runs the vectors in test.c and the worked examples in programs that are linked with a library."""
     compiler = [f"{TARGET}-gcc", "-std=c99", "-O1", f"-I{include}"]
     run([*compiler, str(ROOT / "dist/c/test.c"), *library, "-o", f"{folder}/linked"])
     run([*emulator, f"{folder}/linked"])
-    worked.check([*emulator, driver.built(f"{folder}/driver", compiler, *library)], worked.calls())
-
-
-def check_lint(debs: List[pathlib.Path]) -> None:
-    if shutil.which("lintian"):
-        run(["lintian", "--allow-root", "--fail-on=error", "--no-cfg", *map(str, debs)])
-    else:
-        left_out("lintian isn't here, so it doesn't look at the packages for Debian on arm64")
-
-
-def made(folder: str, name: str, words: List[str]) -> List[pathlib.Path]:
-    """Runs a tool that leaves packages in a new folder, and returns them."""
-    there = pathlib.Path(folder, name)
-    there.mkdir()
-    run([*words, str(there)], cwd=ROOT)
-    return sorted(there.iterdir())
+    driver.check([*emulator, driver.built(f"{folder}/driver", compiler, *library)], worked.calls())
 
 
 def of_debs(folder: str, emulator: List[str]) -> str:
@@ -125,7 +96,7 @@ def of_debs(folder: str, emulator: List[str]) -> str:
     if missing:
         left_out(f"these aren't here, so no package for Debian is made for arm64: {', '.join(missing)}")
         return "no package for Debian was made"
-    debs, others = made(folder, "debs", ["tools/deb", "--target", TARGET]), made(folder, "others", ["tools/deb"])
+    debs, others = packed.made(f"{folder}/debs", ["tools/deb", "--target", TARGET]), packed.made(f"{folder}/others", ["tools/deb"])
     if [it.name for it in debs] != [it.name.replace("_amd64", "_arm64") for it in others]:
         raise Failed(f"the packages for arm64 are {[it.name for it in debs]}")
     if [it.read_bytes() for it in debs if "_all" in it.name] != [it.read_bytes() for it in others if "_all" in it.name]:
@@ -134,8 +105,8 @@ def of_debs(folder: str, emulator: List[str]) -> str:
     for ours, theirs in [(one, other) for one, other in zip(debs, others) if "_arm64" in one.name]:
         check_package(ours, theirs, folder)
         run(["dpkg-deb", "--extract", str(ours), root])
-    check_lint(debs)
-    check_program(root, emulator)
+    packed.check_lint(debs)
+    packed.check_command([*emulator, f"{root}/usr/bin/shamir"], examples=pathlib.Path(root, "usr/share/doc/shamir/examples"))
     libdir, include = f"{root}/usr/lib/{TARGET}", f"{root}/usr/include"
     check_library(folder, emulator, include, f"-L{libdir}", "-lshamir", f"-Wl,-rpath,{libdir}")
     check_library(folder, emulator, include, "-static", f"{libdir}/libshamir.a")
@@ -153,11 +124,12 @@ def wheel_held(wheel: pathlib.Path) -> Held:
 
 
 def of_wheel(folder: str, emulator: List[str]) -> str:
-    python = python_packages.interpreter()
+    python = packed.interpreter()
     if python is None:
         left_out("no Python here has setuptools and wheel, so no wheel for arm64 is made")
         return "no wheel was made"
-    [ours], [theirs] = made(folder, "wheel", [python, "tools/wheel", "--target", TARGET]), made(folder, "here", [python, "tools/wheel"])
+    [ours] = packed.made(f"{folder}/wheel", [python, "tools/wheel", "--target", TARGET])
+    [theirs] = packed.made(f"{folder}/here", [python, "tools/wheel"])
     library = pathlib.Path(folder, "taken", WHEEL_BINARY)
     with zipfile.ZipFile(ours) as opened:
         opened.extract(WHEEL_BINARY, library.parents[1])

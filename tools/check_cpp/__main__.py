@@ -10,7 +10,6 @@ status 1 if something differs.
 import argparse
 import pathlib
 import re
-import shutil
 import subprocess
 import sys
 import tempfile
@@ -20,11 +19,11 @@ HERE = pathlib.Path(__file__).resolve().parent
 ROOT = HERE.parent.parent
 sys.path.insert(0, str(HERE.parent))
 
-from left_out import left_out  # noqa: E402
-from tool import tool, workers  # noqa: E402
-
-manual, module, rust = tool("manual"), tool("module"), tool("rust")
-compare = module.compare
+import generated_cases  # noqa: E402
+import plain  # noqa: E402
+import shamir_h  # noqa: E402
+from left_out import is_here  # noqa: E402
+from tool import ran  # noqa: E402
 
 HEADERS = ROOT / "include"
 COMPILERS = {"g++": "gcc", "clang++": "clang"}
@@ -43,20 +42,12 @@ MISUSED = {
 }
 # A cursor or names that aren't written in this form can't be given as pairs.
 NAMES = re.compile(r"(?:(?:0|[1-9]\d{0,8})\.(?:0|[1-9]\d{0,8})(?:\+(?!$)|$))*")
-BATCH = 50
-
-
-def run(words):
-    """Runs a command. If it fails, the tool prints what it said and exits."""
-    done = subprocess.run(words, cwd=ROOT, stdout=subprocess.PIPE, stderr=subprocess.STDOUT, text=True)
-    if done.returncode:
-        sys.exit(f"{done.stdout[:3000]}\ntools/check_cpp: {' '.join(map(str, words))} ends with status {done.returncode}")
 
 
 def check_calls():
     """Checks that the layer makes each call of the library."""
     made = set(re.findall(r"\bshamir_\w+(?=\()", (HEADERS / "shamir.hpp").read_text()))
-    missing = set(manual.calls_of_header(manual.HEADER.read_text())) - made
+    missing = set(shamir_h.calls()) - made
     if missing:
         sys.exit(f"include/shamir.hpp makes no call of {' and '.join(sorted(missing))}")
 
@@ -74,59 +65,26 @@ def check_misuse(compiler):
 def check_compiler(compiler, folder):
     """Runs the tests over both libraries."""
     portable = f"{folder}/{compiler}.o"
-    run([COMPILERS[compiler], "-O0", *MEMORY, "-c", str(ROOT / "dist" / "c" / "shamir.c"), "-o", portable])
+    ran([COMPILERS[compiler], "-O0", *MEMORY, "-c", ROOT / "dist" / "c" / "shamir.c", "-o", portable])
     for standard, flags, library in [("c++17", SANITIZED, ROOT / "libshamir.a"), ("c++20", ["-O2"], portable)]:
         program = f"{folder}/tests-{compiler}-{standard}"
-        run([compiler, f"-std={standard}", *STRICT, *flags, str(HERE / "tests.cpp"), str(library), "-o", program])
-        run([program])
+        ran([compiler, f"-std={standard}", *STRICT, *flags, HERE / "tests.cpp", library, "-o", program])
+        ran([program])
     check_misuse(compiler)
 
 
 def can_be_said(case):
     """Returns whether a case gives its names as pairs."""
-    _, words, options = module.parts(case.words)
+    _, words, options = plain.parts(case.words)
     after = options.get("after")
     return NAMES.fullmatch(words[1] if case.words[0] == "reissue" else "" if after is None else after or "-") is not None
-
-
-def expected(case):
-    """Returns what the layer gives: what the command writes, and its refusal without the name of the command. A line of its own has no number."""
-    output, told, _ = case.expected
-    told = told.removeprefix("shamir: ").removesuffix("\n")
-    return output, told.removeprefix("line 1: ") if case.words[0] in ("show", "repair") else told
-
-
-def differences(batch):
-    """Returns how many cases of a batch were tried, and what differs, as texts."""
-    numbers, seed, program = batch
-    cases = [(number, module.made(f"{seed}/{number}", list(module.KINDS))) for number in numbers]
-    cases = [(number, case) for number, case in cases if can_be_said(case)]
-    lines = "".join(rust.request(case) + "\n" for _, case in cases)
-    done = subprocess.run([program], input=lines, capture_output=True, text=True)
-    answers = done.stdout.splitlines()
-    if done.returncode or len(answers) != len(cases):
-        return 0, [f"answers.cpp ends with status {done.returncode} after {len(answers)} of {len(cases)} cases: {done.stderr}"]
-    found = []
-    for (number, case), answer in zip(cases, answers):
-        output, told = (bytes.fromhex(part[1:]).decode() for part in answer.split(" "))
-        if (output, told) != expected(case):
-            what = f"case {number} differs: {' '.join(map(repr, case.words))}\ninput: {case.data!r}"
-            found.append(f"{what}\nshamir.hpp: {output!r} {told!r}\nplain: {case.expected!r}")
-    return len(cases), found
 
 
 def check_cases(compiler, folder, count, seed):
     """Compares generated cases, and returns how many."""
     program = f"{folder}/answers"
-    run([compiler, "-std=c++17", *STRICT, *SANITIZED, str(HERE / "answers.cpp"), str(ROOT / "libshamir.a"), "-o", program])
-    batches = [(range(at, min(at + BATCH, count)), seed, program) for at in range(0, count, BATCH)]
-    tried = 0
-    with workers() as pool:
-        for more, found in pool.map(differences, batches):
-            tried += more
-            if found:
-                sys.exit(found[0])
-    return tried
+    ran([compiler, "-std=c++17", *STRICT, *SANITIZED, HERE / "answers.cpp", ROOT / "libshamir.a", "-o", program])
+    return generated_cases.compare_all([generated_cases.Reader("shamir.hpp", [program], takes=can_be_said)], count, seed)
 
 
 def main():
@@ -135,9 +93,7 @@ def main():
     parser.add_argument("--seed", type=int, default=39)
     args = parser.parse_args()
     check_calls()
-    here = [it for it in COMPILERS if shutil.which(it)]
-    for compiler in set(COMPILERS) - set(here):
-        left_out(f"{compiler} isn't here, so it doesn't compile include/shamir.hpp")
+    here = [it for it in COMPILERS if is_here(it, "it doesn't compile include/shamir.hpp")]
     if not here:
         return
     if not (ROOT / "libshamir.a").exists():

@@ -1,8 +1,6 @@
 /*
- * Makes calls of shamir.hpp, and writes what the command shamir would print. tools/check_cpp runs it.
- *
- * Each line of the input is a command and its values. A value is a point and hexadecimal digits, or - for none. Each line of the output
- * has what the command writes to standard output and to standard error, both in this form.
+ * Makes calls of shamir.hpp, and writes what the command shamir would print. tools/check_cpp runs it, and tools/generated_cases.py says what
+ * the lines of its input and output are.
  */
 #include <iostream>
 #include <map>

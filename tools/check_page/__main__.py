@@ -10,15 +10,12 @@ If a browser, or what the page is built with, isn't installed, its parts are lef
 `make`, is tried once more, with the same seed.
 """
 import argparse
-import concurrent.futures
-import os
+import functools
 import pathlib
 import random
 import re
 import sys
 import threading
-import time
-import traceback
 
 sys.dont_write_bytecode = True
 sys.path.insert(0, str(pathlib.Path(__file__).resolve().parent))
@@ -47,11 +44,11 @@ import ways_out  # noqa: E402
 import webkit  # noqa: E402
 from hands import Page  # noqa: E402
 from left_out import left_out  # noqa: E402
+from parts import AT_ONCE, Part, all_pass, tried  # noqa: E402
 from texts import ROOT, say  # noqa: E402
 
-PARTS = ["sources", "tasks", "journey", "change", "refusals", "entry", "astray", "hasty", "long", "looks", "agreement", "privacy", "ways", "webkit"]
-# The parts that take longest, and how many parts run side by side.
-LONG, AT_ONCE = ["privacy", "change", "refusals", "tasks", "entry", "looks"], min(4, len(os.sched_getaffinity(0)))
+# Those that take longest begin first. `privacy` mostly waits.
+PARTS = ["privacy", "change", "refusals", "tasks", "entry", "looks", "journey", "astray", "hasty", "long", "agreement", "ways", "webkit", "sources"]
 PICTURES, pictures = ROOT / "page/out", threading.Event()
 # The title, the address, the entries of the history, what is stored, and what was asked for.
 KEPT = """
@@ -62,16 +59,11 @@ KEPT = """
 """
 
 
-def seer(page_of, name):
-    """Returns what takes a picture of a screen, if pictures are wanted."""
-
-    def see(what):
-        if not pictures.is_set():
-            return
+def see(name, page, what):
+    """Takes a picture of a screen, if pictures are wanted."""
+    if pictures.is_set():
         PICTURES.mkdir(exist_ok=True)
-        (PICTURES / f"{name}-{re.sub('[^a-z0-9]+', '-', what.lower())}.png").write_bytes(page_of().picture())
-
-    return see
+        (PICTURES / f"{name}-{re.sub('[^a-z0-9]+', '-', what.lower())}.png").write_bytes(page.picture())
 
 
 def in_browser(name, url, checks):
@@ -81,23 +73,11 @@ def in_browser(name, url, checks):
         page.wait_title(say("home.title"))
         before = page.evaluate(KEPT)
         for check in checks:
-            check(page, seer(lambda: page, name))
+            check(page, functools.partial(see, name, page))
         if page.evaluate(KEPT) != before:
             raise browsers.Failed(f"what the page keeps, or what it asked for, changed from {before} to {page.evaluate(KEPT)}")
         if page.messages():
             raise browsers.Failed(f"the console has messages: {page.messages()}")
-
-
-def check_looks(name, url):
-    shown = []
-    original = looks.Page.__init__
-
-    class Seen(looks.Page):
-        def __init__(self, *given):
-            original(self, *given)
-            shown[:] = [self]
-
-    looks.check(name, url, seer(lambda: shown[0], name), Seen)
 
 
 def parts_of(name, url, modules, cases, seed):
@@ -111,56 +91,32 @@ def parts_of(name, url, modules, cases, seed):
         "astray": lambda: in_browser(name, url, astray.CHECKS),
         "hasty": lambda: in_browser(name, url, hasty.CHECKS + choices.CHECKS + [typists.check]),
         "long": lambda: in_browser(name, url, long_drill.CHECKS),
-        "looks": lambda: check_looks(name, url),
+        "looks": lambda: looks.check(name, url, functools.partial(see, name)),
         "agreement": lambda: in_browser(name, url, [lambda page, _: agreement.check(page, modules, cases, seed), lambda page, _: agreement.check_memory(page)]),
         "privacy": lambda: privacy.check(name, url, seed),
         "ways": lambda: ways_out.check(name, url),
     }
 
 
-def check_webkit(url):
-    webkit.check(url, lambda page, what: seer(lambda: page, "webkit")(what))
-
-
-def tried(name, part, check):
-    """Runs a part, and returns whether it passed."""
-    start = time.monotonic()
-    try:
-        check()
-    except Exception as fault:
-        why = fault if isinstance(fault, browsers.Failed) else f"the check itself failed\n{traceback.format_exc()}"
-        # In a check that is interrupted, browsers are ended at any step.
-        if not browsers.interrupted.is_set():
-            print(f"{name}, {part}: {why}", flush=True)
-        return False
-    print(f"{name}, {part}: passed in {time.monotonic() - start:.0f} seconds", flush=True)
-    return True
+def check_sources():
+    sources.check(ROOT / "page")
+    sources.check_types(ROOT / "page")
+    decisions.check()
 
 
 def checked(given):
-    """Runs what was asked for, and returns the status."""
+    """Runs what was asked for, and returns whether all of it passed."""
     if given.faults:
-        return 0 if tried("chromium", "faults", lambda: faults.check(ROOT / "shamir32.wasm", lambda text: print(text, flush=True))) else 1
-    wanted = given.parts
-    passed = [tried("page", "sources", lambda: (sources.check(ROOT / "page"), sources.check_types(ROOT / "page"), decisions.check()))] if "sources" in wanted else []
+        return tried(Part("chromium, faults", lambda: faults.check(ROOT / "shamir32.wasm")))
     modules = [ROOT / "shamir32.wasm", ROOT / "shamir.wasm"]
     url = given.page.resolve().as_uri()
-    jobs = [(name, part, check) for name in given.browser for part, check in parts_of(name, url, modules, given.cases, given.seed).items() if part in wanted]
-    if "webkit" in wanted:
-        jobs.append(("webkit", "tasks", lambda: check_webkit(url)))
-    # What takes longest begins first. `privacy` mostly waits.
-    jobs.sort(key=lambda job: LONG.index(job[1]) if job[1] in LONG else len(LONG))
-    with concurrent.futures.ThreadPoolExecutor(AT_ONCE) as pool:
-        first = list(pool.map(lambda job: tried(*job), jobs))
-    if not all(first):
-        print(f"the seed is {given.seed}", flush=True)
-    # On a busy machine a browser can miss a deadline. So a part that failed beside others is tried once more. `make` runs one part at a
-    # time, and other checks beside it.
-    is_beside = len(jobs) > 1 or "MAKELEVEL" in os.environ
-    passed += [good or (is_beside and not browsers.interrupted.is_set() and tried(*job)) for job, good in zip(jobs, first)]
-    if len(passed) > 1:
-        print(f"{sum(passed)} passed, {len(passed) - sum(passed)} failed")
-    return 0 if all(passed) else 1
+    of_browsers = {name: parts_of(name, url, modules, given.cases, given.seed) for name in given.browser}
+    of_browsers["page"] = {"webkit": lambda: webkit.check(url, functools.partial(see, "webkit"))}
+    jobs = [Part(f"{name}, {part}", its[part], waits=True) for part in PARTS if part in given.parts for name, its in of_browsers.items() if part in its]
+    if "sources" in given.parts:
+        jobs.append(Part("page, sources", check_sources))
+    print(f"the seed is {given.seed}", flush=True)
+    return all_pass(jobs, AT_ONCE)
 
 
 def main():
@@ -188,7 +144,7 @@ def main():
         if given.faults:
             return 0
     with browsers.workplace():
-        return checked(given)
+        return 0 if checked(given) else 1
 
 
 if __name__ == "__main__":

@@ -2,17 +2,14 @@
 import base64
 import json
 import random
-import subprocess
-import tempfile
 
 from browsers import Failed
-from tasks import ROOT, SOUND_PAPER, THREE_GROUPS
+from samples import PLANS, SOUND_PAPER, THREE_GROUPS, Generated, data_of
 from texts import say
 
 CASES = 20
 # One answer of the browser has this many cases.
 BATCH = 20
-PLANS = ["2of3", "3of5", "1of1", "2/2of3,1of1,1of1", "2/3of5,1of1", "3/2of2,3of4,1of1,2of3", "16of16"]
 # The page's own worker script, with a listener that calls the engine, in place of the page's.
 CALLER = """
 self.onmessage = async ({ data: { module, cases } }) => {
@@ -45,49 +42,33 @@ RUN = """
 """
 
 
-def case(source):
-    plan = source.choice(PLANS)
-    secret = source.randbytes(source.choice([16, 32, 64, 128]))
-    passphrase = "".join(chr(source.randrange(32, 127)) for _ in range(source.randrange(12)))
-    return {"plan": plan, "secret": secret, "passphrase": passphrase, "exponent": source.randrange(2), "extendable": source.random() < 0.5}
-
-
-def by_program(program, it, source):
-    """Returns the lines of a backup, and those of its drills by fingerprints and by the one that is expected, by ./shamir."""
-    with tempfile.TemporaryDirectory() as folder:
-        for name, value in [("secret", it["secret"].hex()), ("passphrase", it["passphrase"])]:
-            with open(f"{folder}/{name}", "w") as file:
-                file.write(value)
-        options = ["--passphrase-file", f"{folder}/passphrase"]
-        words = [program, "create", it["plan"], "--master-secret-file", f"{folder}/secret", *options, "--exponent", str(it["exponent"])]
-        words += ["--extendable"] if it["extendable"] else []
-        needed = subprocess.run(words, input=b"", capture_output=True).stderr.split()
-        it["random"] = source.randbytes(int(needed[-2]))
-        made = subprocess.run(words, input=it["random"], capture_output=True, check=True).stdout
-        drilled = subprocess.run([program, "drill", "--fingerprint", *options], input=made, capture_output=True, check=True).stdout
-        fingerprint = drilled.split()[1].decode()
-        compared = subprocess.run([program, "drill", "--expect", fingerprint, *options], input=made, capture_output=True, check=True).stdout
-    return made.decode().splitlines(), *(listing.decode().splitlines()[:-1] for listing in (drilled, compared))
+def drilled(it, *options):
+    """Returns the lines of a drill of all papers, by ./shamir."""
+    told, refused, status = it.told(["drill", *options], data_of(it.papers))
+    if status:
+        raise Failed(f"./shamir drills with status {status}: {refused}")
+    return told.splitlines()[:-1]
 
 
 def check(page, modules, count, seed):
     """Compares each form of the module with ./shamir, on so many generated backups."""
     source = random.Random(seed)
     for first in range(0, count, BATCH):
-        check_batch(page, modules, [case(source) for _ in range(min(BATCH, count - first))], source)
+        check_batch(page, modules, [Generated(source, [*PLANS, "16of16"], [16, 32, 64, 128]) for _ in range(min(BATCH, count - first))])
 
 
-def check_batch(page, modules, cases, source):
-    wanted = [by_program(str(ROOT / "shamir"), it, source) for it in cases]
-    listed = [it | {"secret": list(it["secret"]), "random": list(it["random"])} for it in cases]
+def check_batch(page, modules, cases):
+    wanted = [(it.papers, drilled(it, "--fingerprint"), drilled(it, "--expect", it.noted)) for it in cases]
+    names = ("plan", "passphrase", "exponent", "extendable")
+    listed = [{name: getattr(it, name) for name in names} | {"secret": list(it.secret), "random": list(it.random)} for it in cases]
     for module in modules:
         given = {"module": base64.b64encode(module.read_bytes()).decode(), "cases": listed, "caller": CALLER}
         found = json.loads(page.evaluate(RUN % json.dumps(given)))
         if isinstance(found, str):
             raise Failed(f"{module.name}: {found}")
-        for it, (lines, drilled, compared), here in zip(cases, wanted, found):
-            if here["lines"] != lines or here["drilled"] != drilled or here["compared"] != compared or bytes(here["recovered"]) != it["secret"]:
-                raise Failed(f"{module.name} and ./shamir differ for the plan {it['plan']} and a secret of {len(it['secret'])} bytes")
+        for it, by_program, here in zip(cases, wanted, found):
+            if (here["lines"], here["drilled"], here["compared"]) != by_program or bytes(here["recovered"]) != it.secret:
+                raise Failed(f"{module.name} and ./shamir differ for the plan {it.plan} and a secret of {len(it.secret)} bytes")
 
 
 # Runs the page's worker as the page does, and looks at what it leaves: the module's memory outside its constants, and each array

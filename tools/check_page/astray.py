@@ -1,57 +1,17 @@
 """Where an owner who reads only the screen could go astray: papers that don't work, results that say too much, and what may be destroyed."""
-from browsers import Failed
-from entry import with_words as of_sound
 from looks import check_screen
-from refusals import changed, paste
-from tasks import FINGERPRINT, PASSPHRASE, SOUND_PAPER, THREE_GROUPS, answer_passphrase, begin, end, example, fingerprint_of, found_words, plain, read_paper, type_damaged, type_paper
+from samples import FINGERPRINT, PASSPHRASE, SOUND_PAPER, THREE_GROUPS, TWO, changed, fingerprint_of, name_of, named, opening, papers_of, swapped, with_words
+from tasks import answer_passphrase, begin, begin_replace, clear, drill, end, found_words, paste, read_paper, take, take_all, type_damaged, type_paper
+from tasks import write_anew
 from texts import counted, say
-
-
-def papers_of(plan):
-    """Returns the papers of a backup without a passphrase, by the plain reading."""
-    plan = plain.parse_plan(plan)
-    shares = plain.create(plan, bytes(range(16)), b"", 0, False, bytes(range(plain.random_needed(plan, 16))))
-    return [plain.mnemonic(share) for share in shares]
-
-
-def name_of(line):
-    share = plain.parse(line.encode())
-    return f"{share['group']}.{share['member']}"
-
-
-def with_words(line, changes):
-    """Returns a paper with other words at some places, counted from 1."""
-    words = line.split()
-    for place, word in changes.items():
-        words[place - 1] = word
-    return " ".join(words)
-
-
-def silent(page, text):
-    """Checks that a text isn't on the screen."""
-    if text in page.text():
-        raise Failed(f"this is shown, and shouldn't be: {text!r}")
-
-
-def take(page, lines):
-    """Pastes papers that are taken."""
-    for line in lines:
-        paste(page, line)
-        page.wait_text(say("collect.taken", name=name_of(line)))
-
-
-def clear(page):
-    page.push(say("clear"))
-    page.wait_title(say("home.title"))
 
 
 def leave_out(page, papers):
     """Pastes paper 0.3 with a wrong word, and paper 0.4 with two words that changed places, and empties the fields."""
-    words = papers[4].split()
     paste(page, with_words(papers[3], {17: "acid"}))
     page.wait_text("If the paper says the same, it is miswritten: 'Read a damaged paper'")
     page.push(say("entry.empty"))
-    paste(page, with_words(papers[4], {9: words[9], 10: words[8]}))
+    paste(page, swapped(papers[4], 9))
     page.wait_text("If they agree, the paper itself is wrong")
     page.push(say("entry.empty"))
 
@@ -62,37 +22,32 @@ def check_left_out(page, see):
     noted = fingerprint_of(papers, "")
     begin(page, "check")
     page.wait_text("Have the passphrase at hand too, if there is one, and the fingerprint that you noted.")
-    silent(page, "Type the words in their order")
+    page.lacks("Type the words in their order")
     leave_out(page, papers)
     take(page, [*papers[:3], papers[5]])
     for left, more in [(2, [papers[3]]), (1, [papers[4]]), (0, [])]:
         page.push(say("collect.end"))
-        answer_passphrase(page, None, noted)
-        page.push(say("drill.start"))
+        drill(page, None, noted)
         page.wait_title(say("check.done.left_out" if left else "check.done.good"))
-        names = [name_of(line) for line in papers if line in papers[:3] + papers[5:] or line == papers[3] and left < 2 or not left]
-        page.wait_text(say("verdict.papers", names=", ".join(names)))
+        tried = [line for line in papers if line in papers[:3] + papers[5:] or line == papers[3] and left < 2 or not left]
+        page.wait_text(say("verdict.papers", names=named(tried)))
         if left:
             page.wait_text(counted(left, "left"))
             see(f"{left} papers that were left out")
-            page.push(say("collect.back"))
-            page.wait_title(say("check.title"))
+            page.push(say("collect.back"), to=say("check.title"))
             take(page, more)
         else:
-            silent(page, "left out")
+            page.lacks("left out")
     end(page)
     begin(page, "recover")
     take(page, papers[:1])
     paste(page, changed(papers[1], exponent=3))
     page.wait_text(say("refused.23"))
     page.push(say("entry.empty"))
-    page.go_to("textbox", say("entry.word", number=1))
-    page.type(" ".join(papers[2].split()[:12]) + " ")
+    page.fill(say("entry.word", number=1), " ".join(papers[2].split()[:12]) + " ")
     page.push(say("collect.end"))
-    page.push(say("collect.unread.drop"))
-    page.wait_title(say("recover.few"))
-    for text in (counted(1, "left"), say("left.sound.one", names="0.1")):
-        page.wait_text(text)
+    page.push(say("collect.unread.drop"), to=say("recover.few"))
+    page.wait_text(counted(1, "left"), say("left.sound.one", names="0.1"))
     end(page)
 
 
@@ -103,8 +58,8 @@ def check_impossible(page, see):
     begin(page, "damaged")
     paste(page, with_words(line, {5: "?", 6: "?", 7: "?"}))
     page.wait_text(say("damaged.impossible", name="12.0", groups=counted(10, "group")))
-    silent(page, say("damaged.write", name="12.0"))
-    silent(page, say("damaged.one", name="12.0"))
+    page.lacks(say("damaged.write", name="12.0"))
+    page.lacks(say("damaged.one", name="12.0"))
     see("a paper that no backup has")
     clear(page)
     begin(page, "check")
@@ -112,7 +67,7 @@ def check_impossible(page, see):
     page.wait_text(say("status.group", group=12))
     clear(page)
     begin(page, "damaged")
-    type_damaged(page, of_sound({7: "_", 9: "fr__"}))
+    type_damaged(page, with_words(SOUND_PAPER, {7: "_", 9: "fr__"}))
     page.wait_text(say("damaged.sure", name="0.0"))
     page.wait(lambda: "length" in found_words(page) and "fridge" in found_words(page), "the words in place of lines")
     clear(page)
@@ -123,35 +78,26 @@ def check_repaired(page, see):
     line = changed(THREE_GROUPS[0], value=bytes(16))
     begin(page, "damaged")
     paste(page, with_words(line, {6: "?"}))
-    page.push(say("damaged.write", name="0.0"))
-    page.wait_title(say("paper.title", name="0.0"))
+    page.push(say("damaged.write", name="0.0"), to=say("paper.title", name="0.0"))
     read_paper(page)
     page.push(say("clear"))
     page.wait_text("destroy only a paper written now and not typed back. Keep all others: your old ones, and those typed back.")
-    silent(page, say("clear.unfinished"))
+    page.lacks(say("clear.unfinished"))
     page.push(say("clear.stay"))
     page.push(say("paper.written"))
     type_paper(page, line)
     page.wait_title(say("damaged.check.title"))
     paste(page, changed(THREE_GROUPS[1], exponent=3))
     page.wait_text("Most likely paper 0.0 is wrong, of which words were found and not read.")
-    silent(page, "is of another backup, or forged")
+    page.lacks("is of another backup, or forged")
     see("a repaired paper is blamed")
     page.push(say("entry.empty"))
-    take(page, THREE_GROUPS[1:4])
-    page.push(say("collect.end"))
-    answer_passphrase(page, PASSPHRASE, FINGERPRINT)
-    page.push(say("drill.start"))
+    take_all(page, THREE_GROUPS[1:4])
+    drill(page, PASSPHRASE, FINGERPRINT)
     page.wait_title(say("check.done.some"))
     page.wait_text(say("damaged.keep"))
     page.wait_text(say("damaged.suspect.one", names="0.0"))
     end(page)
-
-
-def repair(page, line):
-    """Begins to read a damaged paper."""
-    begin(page, "damaged")
-    find_word(page, line)
 
 
 def check_untried(page, see):
@@ -165,17 +111,16 @@ def check_untried(page, see):
         (papers[3], papers[4:5], None, "check.done.same", [keep], [right]),
         (papers[3], papers[4:5], noted, "check.done.good", [right], [keep]),
     ]:
-        repair(page, line)
-        take(page, others)
-        page.push(say("collect.end"))
+        begin(page, "damaged")
+        write_anew(page, line)
+        take_all(page, others)
         page.wait_title(say("damaged.passphrase"))
-        answer_passphrase(page, None, fingerprint)
-        page.push(say("drill.start"))
+        drill(page, None, fingerprint)
         page.wait_title(say(title))
         for text in wanted:
             page.wait_text(text)
         for text in unwanted:
-            silent(page, text)
+            page.lacks(text)
         see(f"what a drill shows of a repaired paper {title}")
         end(page)
 
@@ -183,44 +128,33 @@ def check_untried(page, see):
 def check_lost(page, see):
     """The only paper of a group without which nothing is recovered: nothing else gives it. No more is said to be there than is known."""
     papers = papers_of("2/3of5,1of1")
-    begin(page, "replace")
-    page.choose(say("replace.other"))
-    page.push(say("continue"))
+    begin_replace(page, "other")
     page.wait_text("The lost paper doesn't work together with the new ones.")
     page.wait_text("or if you don't have enough of them to recover it. Then make a new wallet while the old one still works")
     page.push(say("back"))
     page.choose(say("replace.destroyed"))
     page.push(say("continue"))
-    take(page, papers[:4])
-    page.push(say("collect.end"))
+    take_all(page, papers[:4])
     page.choose(say("which.paper", name="1.0"))
     page.fill(say("which.needed"), "1", "spinbutton")
     page.push(say("which.write"))
     page.wait_text(f"{say('which.untold', name='1.0')} No other papers give it. If your wallet still works, make a new wallet, and move your money to it.")
-    silent(page, "Or it takes")
+    page.lacks("Or it takes")
     see("a paper that nothing else gives")
     page.choose(say("which.paper", name="0.4"))
-    page.push(say("which.write"))
-    page.wait_title(say("paper.title", name="0.4"))
+    page.push(say("which.write"), to=say("paper.title", name="0.4"))
     page.push(say("paper.written"))
     type_paper(page, papers[4])
     page.wait_title(say("replace.which"))
-    page.push(say("replace.end"))
-    page.wait_title(say("replace.done"))
+    page.push(say("replace.end"), to=say("replace.done"))
     end(page)
-    begin(page, "replace")
-    page.choose(say("replace.destroyed"))
-    page.push(say("continue"))
-    take(page, papers_of("2of3")[:2])
-    page.push(say("collect.end"))
+    begin_replace(page)
+    take_all(page, papers_of("2of3")[:2])
     page.choose(say("which.paper", name="0.2"))
-    page.push(say("which.write"))
-    page.wait_title(say("paper.title", name="0.2"))
+    page.push(say("which.write"), to=say("paper.title", name="0.2"))
     page.wait_text(say("takes.papers", needed=2))
-    silent(page, "of the 16 papers")
-    page.push(say("clear"))
-    page.push(say("clear.yes"))
-    page.wait_title(say("home.title"))
+    page.lacks("of the 16 papers")
+    clear(page, is_asked=True)
 
 
 def check_without(page, see):
@@ -230,41 +164,35 @@ def check_without(page, see):
         ("recover", "recover.done.other", "the backup most likely has a passphrase: try again, and type it."),
     ]:
         begin(page, task)
-        take(page, THREE_GROUPS[:4])
-        page.push(say("collect.end"))
+        take_all(page, THREE_GROUPS[:4])
         answer_passphrase(page, None, FINGERPRINT)
         if task == "check":
             page.push(say("drill.start"))
         page.wait_title(say(title))
         page.wait_text(text)
-        silent(page, "passphrase is mistyped")
+        page.lacks("passphrase is mistyped")
         see(f"{task} without the passphrase")
         end(page)
-
-
-def begin_of(line):
-    return " ".join(line.split()[:2])
 
 
 def check_apart(page, see):
     """Papers of several backups are kept apart, also if the first one is the wrong one. The owner goes on with those of one, and the result
     tells of the others."""
-    two = example("two-needed.txt")
-    own, other, third = map(begin_of, (THREE_GROUPS[0], SOUND_PAPER, two[0]))
+    own, other, third = map(opening, (THREE_GROUPS[0], SOUND_PAPER, TWO[0]))
     begin(page, "check")
     take(page, [SOUND_PAPER])
     paste(page, THREE_GROUPS[0])
     page.wait_text(say("collect.taken.apart", name="0.0", begin=own))
     page.wait_text(say("collect.apart", count=2))
-    silent(page, say("collect.end"))
+    page.lacks(say("collect.end"))
     see("the first paper of another backup")
     for line in THREE_GROUPS[1:4]:
         paste(page, line)
         page.wait_text(say("collect.taken.of", name=name_of(line), begin=own))
     paste(page, SOUND_PAPER)
     page.wait_text(say("collect.repeated", name="0.0"))
-    paste(page, two[0])
-    page.wait_text(say("collect.taken.apart", name=name_of(two[0]), begin=third))
+    paste(page, TWO[0])
+    page.wait_text(say("collect.taken.apart", name=name_of(TWO[0]), begin=third))
     page.wait_text(say("collect.apart", count=3))
     paste(page, changed(THREE_GROUPS[4], exponent=3))
     page.wait_text(say("refused.23"))
@@ -277,48 +205,32 @@ def check_apart(page, see):
     page.push(say("collect.undo", name="0.0"))
     page.wait_text(say("collect.undone", name="0.0"))
     page.push(say("collect.end.of", begin=own))
-    answer_passphrase(page, PASSPHRASE, FINGERPRINT)
-    page.push(say("drill.start"))
+    drill(page, PASSPHRASE, FINGERPRINT)
     page.wait_title(say("check.done.left_out"))
     page.wait_text(say("verdict.all.noted", quorums=counted(3, "quorum"), fingerprint=FINGERPRINT))
-    for text in (say("left.backup.one", names="0.0", begin=other), say("left.backup.one", names=name_of(two[0]), begin=third), say("left.sound.one", names="2.0")):
-        page.wait_text(text)
+    page.wait_text(say("left.backup.one", names="0.0", begin=other), say("left.backup.one", names=name_of(TWO[0]), begin=third))
+    page.wait_text(say("left.sound.one", names="2.0"))
     see("a result beside papers of other backups")
     page.push(say("collect.back"))
     page.wait_text(say("collect.apart", count=3))
-    page.push(say("collect.drop.of", name=name_of(two[0]), begin=third))
+    page.push(say("collect.drop.of", name=name_of(TWO[0]), begin=third))
     page.wait_text(say("collect.apart", count=2))
     page.push(say("collect.drop.of", name="0.0", begin=other))
     page.wait(lambda: say("status.backup", begin=own) not in page.text(), "the papers of one backup, as they are without others")
-    page.push(say("collect.end"))
-    page.wait_title(say("check.passphrase"))
+    page.push(say("collect.end"), to=say("check.passphrase"))
     clear(page)
     # The backup that is chosen is the one that is too few.
     begin(page, "recover")
-    take(page, two[:1])
+    take(page, TWO[:1])
     paste(page, SOUND_PAPER)
     page.wait_text(say("collect.taken.apart", name="0.0", begin=other))
-    page.push(say("collect.end.of", begin=third))
-    page.wait_title(say("recover.few"))
+    page.push(say("collect.end.of", begin=third), to=say("recover.few"))
     page.wait_text(say("left.backup.one", names="0.0", begin=other))
     page.push(say("collect.more"))
     page.push(say("collect.end.of", begin=other))
     answer_passphrase(page, PASSPHRASE, FINGERPRINT)
     page.wait_title(say("recover.done.same"))
     end(page)
-
-
-def find_word(page, line):
-    """Types what can be read of a paper of which one word is open, writes it anew, and types it back."""
-    name = name_of(line)
-    page.wait_title(say("damaged.title"))
-    paste(page, with_words(line, {6: "?"}))
-    page.push(say("damaged.write", name=name))
-    page.wait_title(say("paper.title", name=name))
-    page.push(say("paper.written"))
-    page.wait_title(say("back.title", name=name))
-    paste(page, line)
-    page.wait_title(say("damaged.check.title"))
 
 
 def check_several_repaired(page, see):
@@ -331,28 +243,25 @@ def check_several_repaired(page, see):
         (wrong, "check.done.some", [say("damaged.suspect.one", names="0.2"), say("damaged.keep")]),
     ]:
         begin(page, "damaged")
-        find_word(page, papers[1])
+        write_anew(page, papers[1])
         page.push(say("damaged.another"))
-        find_word(page, third)
+        write_anew(page, third)
         page.wait_text(say("collect.row.repaired", name="0.1", words=20))
         page.wait_text(say("collect.row.repaired", name="0.2", words=20))
         take(page, papers[:1])
-        page.push(say("damaged.another"))
-        page.wait_title(say("damaged.title"))
+        page.push(say("damaged.another"), to=say("damaged.title"))
         paste(page, with_words(changed(papers[2], exponent=3), {6: "?"}))
         page.wait_text(say("damaged.apart", name="0.2"))
-        silent(page, say("damaged.write", name="0.2"))
+        page.lacks(say("damaged.write", name="0.2"))
         see("a damaged paper that can't be of the others' backup")
         page.push(say("back"))
-        page.push(say("entry.lost.go"))
-        page.wait_title(say("damaged.check.title"))
+        page.push(say("entry.lost.go"), to=say("damaged.check.title"))
         paste(page, SOUND_PAPER)
-        page.wait_text(f"{say('collect.taken.apart', name='0.0', begin=begin_of(SOUND_PAPER))} {say('refused.repaired.many', names='0.1, 0.2')}")
-        page.push(say("collect.drop.of", name="0.0", begin=begin_of(SOUND_PAPER)))
+        page.wait_text(f"{say('collect.taken.apart', name='0.0', begin=opening(SOUND_PAPER))} {say('refused.repaired.many', names='0.1, 0.2')}")
+        page.push(say("collect.drop.of", name="0.0", begin=opening(SOUND_PAPER)))
         see("several repaired papers")
         page.push(say("collect.end"))
-        answer_passphrase(page, None, noted)
-        page.push(say("drill.start"))
+        drill(page, None, noted)
         page.wait_title(say(title))
         for text in texts:
             page.wait_text(text)

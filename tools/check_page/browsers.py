@@ -18,6 +18,9 @@ import urllib.request
 
 from websocket import Closed, WebSocket
 
+sys.path.insert(0, str(pathlib.Path(__file__).resolve().parent.parent))
+from tool import Failed, waited  # noqa: E402
+
 # A browser may take this many seconds to start, and for one answer.
 PATIENCE = 60
 NAMES = ["chromium", "firefox"]
@@ -39,10 +42,6 @@ FIREFOX_PREFERENCES = {
 # The first process of each browser that runs, with the browser's home. It is in a session of its own (setsid) with its number.
 running = {}
 interrupted = threading.Event()
-
-
-class Failed(Exception):
-    """The page, or the browser, did something else than it should."""
 
 
 def missing(names):
@@ -91,9 +90,7 @@ class Browser:
         """Ends the browser as its user does, so that it writes what it keeps."""
         with contextlib.suppress(Closed, Failed, OSError):
             self.session.call("browser.close" if self.name == "firefox" else "session.end")
-        deadline = time.monotonic() + 15
-        while self.name == "firefox" and self.process.poll() is None and time.monotonic() < deadline:
-            time.sleep(0.1)
+        waited(lambda: self.name != "firefox" or self.process.poll() is not None, 15)
         time.sleep(0.5)
         self.kill()
 
@@ -138,6 +135,8 @@ def workplace():
     def stop(number, _):
         print("\nmake check-page: interrupted", file=sys.stderr, flush=True)
         interrupted.set()
+        # Browsers are ended at any step of a part, so what the parts say from now on means nothing.
+        sys.stdout = open(os.devnull, "w")
         clear()
         # Another thread may have been starting a browser.
         time.sleep(0.3)

@@ -2,17 +2,17 @@
 
 What old and new papers give is computed by the plain reading.
 """
-import itertools
-
 from browsers import Failed
 from choices import DRAWN, FOREKNOWN, PHONE, check_green
 from long_drill import check_bar
-from refusals import changed, paste, said
-from tasks import FINGERPRINT, PASSPHRASE, SECRET, THREE_GROUPS, answer_passphrase, begin, end, fingerprint_of, plain, read_paper
+from refusals import said
+from samples import FINGERPRINT, PASSPHRASE, SECRET, THREE_GROUPS, changed, check_backups, fingerprint_of, name_of, papers_of
+from tasks import answer_passphrase, begin, begin_replace, clear, drill, end, paste, take_all, write_down
 from texts import counted, say
 
+import plain
+
 WIDE = (1280, 900)
-OTHER = "another passphrase"
 # Notes whether the page ever shows the digits of a secret.
 WATCH = """
 window.isSeen = false;
@@ -25,17 +25,9 @@ SEEN = "window.watch.disconnect(); window.isSeen"
 
 def old_papers(exponent=0):
     """Returns the papers of an extendable backup of the secret with the passphrase: 2/2of3,1of1,1of1."""
-    plan = plain.parse_plan("2/2of3,1of1,1of1")
-    random = bytes(at * 11 % 256 for at in range(plain.random_needed(plan, 16)))
-    if exponent == 0:
-        return [plain.mnemonic(share) for share in plain.create(plan, bytes.fromhex(SECRET), PASSPHRASE.encode(), exponent, True, random)]
-    # To derive the key would take long. These papers are of some other secret.
-    return [changed(line, exponent=exponent) for line in old_papers()]
-
-
-def name_of(line):
-    share = plain.parse(line.encode())
-    return f"{share['group']}.{share['member']}"
+    papers = papers_of("2/2of3,1of1,1of1", PASSPHRASE, 0, True, bytes.fromhex(SECRET))
+    # To derive the key with a high exponent would take long. Then the papers are of some other secret.
+    return [changed(line, exponent=exponent) for line in papers]
 
 
 def pictures(page, see, what):
@@ -47,34 +39,13 @@ def pictures(page, see, what):
         see(f"change {what} {width}")
 
 
-def take(page, lines):
-    for line in lines:
-        paste(page, line)
-        page.wait_text(say("collect.taken", name=name_of(line)))
-    page.push(say("collect.end"))
-
-
-def type_again(page, label, text=""):
-    page.go_to("textbox", say(label))
-    page.evaluate("document.activeElement.select()")
-    page.press("Backspace")
-    page.type(text)
-
-
 def write(page, see, old, is_checked=False):
     """Writes the new papers down, and types them back. An old paper isn't taken for a new one. Returns the new ones."""
     page.wait_title(say("change.forms"))
-    for text in (say("change.mark"), say("forms.print")):
-        page.wait_text(text)
+    page.wait_text(say("change.mark"), say("forms.print"))
     pictures(page, see, "pen and paper")
     page.push(say("forms.go"))
-    new = []
-    while page.title() != say("back.begin.title"):
-        shown = page.title()
-        new.append(read_paper(page))
-        page.push(say("paper.written"))
-        page.wait(lambda: page.title() != shown, "the end of a paper")
-    page.push(say("continue"))
+    new = write_down(page)
     for line in new:
         page.wait_title(say("back.title", name=name_of(line)))
         if is_checked and line == new[0]:
@@ -89,26 +60,10 @@ def write(page, see, old, is_checked=False):
     return new
 
 
-def check_new(new, old, plan, extendable, exponent):
-    """Compares new papers with old ones, by the plain reading."""
-    shares, first = [plain.parse(line.encode()) for line in new], plain.parse(old[0].encode())
-    found = [f"{len(list(group))} of group {number}" for number, group in itertools.groupby(shares, lambda it: it["group"])]
-    needed, groups = plain.parse_plan(plan)
-    wanted = [f"{count} of group {number}" for number, (_, count) in enumerate(groups)]
-    if found != wanted or any((it["group_threshold"], it["member_threshold"]) != (needed, groups[it["group"]][0]) for it in shares):
-        raise Failed(f"the papers aren't those of the plan {plan}: {found}")
-    if any(it["id"] == first["id"] or it["extendable"] != extendable or it["exponent"] != exponent or len(it["value"]) != len(first["value"]) for it in shares):
-        raise Failed("the new papers have the old identifier, or another flag, exponent or length than they should")
-    for passphrase in (PASSPHRASE, "", OTHER):
-        is_same = fingerprint_of(old, passphrase) == fingerprint_of(new, passphrase)
-        if is_same != (passphrase == PASSPHRASE or extendable == first["extendable"] == 1):
-            raise Failed(f"with the passphrase {passphrase!r}, old and new papers {'agree' if is_same else 'differ'}")
-
-
 def start(page, lines):
     page.evaluate(WATCH % SECRET)
     begin(page, "change")
-    take(page, lines)
+    take_all(page, lines)
     page.wait_title(say("change.plan"))
 
 
@@ -121,8 +76,7 @@ def finish(page):
 def check_done(page, see, what, texts, green, title="change.done"):
     page.wait_title(say(title))
     keep = say("make.keep").split(". ")[1]
-    for text in (*texts, keep, say("change.same"), say("change.restore"), say("change.mixed"), say("change.thief")):
-        page.wait_text(text)
+    page.wait_text(*texts, keep, say("change.same"), say("change.restore"), say("change.mixed"), say("change.thief"))
     if page.text().index(say("change.restore")) > page.text().index(say("change.old.title")):
         raise Failed("what is to be destroyed is told before what is to be done first")
     check_green(page, green)
@@ -135,32 +89,30 @@ def check_extendable(page, see):
     begin(page, "change")
     page.wait_text(say("step.most", at=1, count=8))
     pictures(page, see, "old papers")
-    take(page, old[:1])
+    take_all(page, old[:1])
     page.wait_title(say("recover.few"))
     page.push(say("collect.more"))
-    take(page, [old[1], old[3]])
+    take_all(page, [old[1], old[3]])
     page.wait_title(say("change.plan"))
     page.push(say("back"))
     page.wait_text(say("collect.row", name="1.0", words=20))
-    page.push(say("clear"))
-    page.wait_title(say("home.title"))
+    clear(page)
     start(page, [old[0], old[1], old[3]])
     page.choose(say("plan.three"))
     pictures(page, see, "the new plan")
     page.push(say("continue"))
     new = write(page, see, old, is_checked=True)
-    check_new(new, [old[0], old[1], old[3]], "3of5", 1, 0)
+    check_backups([old[0], old[1], old[3]], new, "3of5", 1)
     # No wallet and no passphrase was asked for.
     page.wait_text(say("step", at=5, count=6))
     pictures(page, see, "what was noted")
-    answer_passphrase(page, "TREZOr", FINGERPRINT)
-    page.push(say("drill.start"))
+    drill(page, "TREZOr", FINGERPRINT)
     page.wait_text(say("verdict.other", quorums=counted(1, "quorum"), noted=FINGERPRINT))
     pictures(page, see, "another fingerprint")
     answer_passphrase(page, PASSPHRASE, None)
     # The fingerprint that was typed before stands there, so none and one are said at once.
     page.wait_text(say("noted.both"))
-    type_again(page, "noted.label", FINGERPRINT)
+    page.retype(say("noted.label"), FINGERPRINT)
     page.push(say("continue"))
     page.push(say("drill.start"))
     verdict = say("verdict.all.noted.new", quorums=counted(10, "quorum"), fingerprint=FINGERPRINT)
@@ -176,11 +128,10 @@ def check_bare(page, see):
         start(page, [old[3], old[4]])
         page.push(say("continue"))
         new = write(page, see, old)
-        check_new(new, [old[3], old[4]], "2of3", 1, 0)
+        check_backups([old[3], old[4]], new, "2of3", 1)
         if passphrase is None:
             # What was typed before isn't taken.
-            answer_passphrase(page, "TREZOr", FINGERPRINT)
-            page.push(say("drill.start"))
+            drill(page, "TREZOr", FINGERPRINT)
             page.wait_text(say("verdict.other", quorums=counted(1, "quorum"), noted=FINGERPRINT))
             page.push(say("change.bare"))
         else:
@@ -197,17 +148,13 @@ def check_renewed(page, see):
     old = [THREE_GROUPS[0], THREE_GROUPS[1], THREE_GROUPS[3]]
     for wallet, noted in (("flag", FINGERPRINT), ("older", None)):
         start(page, old)
-        page.push(say("continue"))
-        page.wait_title(say("change.wallet"))
-        page.push(say("back"))
-        page.wait_title(say("change.plan"))
+        page.push(say("continue"), to=say("change.wallet"))
+        page.push(say("back"), to=say("change.plan"))
         page.push(say("continue"))
         page.choose(say(f"wallet.{wallet}"))
         pictures(page, see, "which wallet")
-        page.push(say("continue"))
-        page.wait_title(say("change.passphrase"))
-        page.push(say("back"))
-        page.wait_title(say("change.wallet"))
+        page.push(say("continue"), to=say("change.passphrase"))
+        page.push(say("back"), to=say("change.wallet"))
         page.push(say("continue"))
         page.wait_text(say("change.passphrase.why"))
         pictures(page, see, "the passphrase")
@@ -217,10 +164,9 @@ def check_renewed(page, see):
             page.fill(say("passphrase.label"), PASSPHRASE)
             page.push(say("continue"))
         new = write(page, see, old)
-        check_new(new, old, "2of3", int(wallet == "flag"), 0)
+        check_backups(old, new, "2of3", int(wallet == "flag"))
         if not noted:
-            answer_passphrase(page, "TREZOr", None)
-            page.push(say("drill.start"))
+            drill(page, "TREZOr", None)
             page.wait_title(say("change.unproved"))
             page.wait_text(say("change.other"))
             check_green(page, [])
@@ -246,26 +192,20 @@ def check_refused(page, see):
     """Papers that don't belong together give no new ones, and the owner goes back to them. From 'Replace', a lost paper leads here."""
     old = old_papers()
     wrong = changed(old[1], value=bytes(16))
-    begin(page, "replace")
-    page.choose(say("replace.other"))
-    page.push(say("continue"))
+    begin_replace(page, "other")
     page.wait_title(say("replace.new.title"))
     page.wait_text(say("replace.new.change"))
     pictures(page, see, "a lost paper")
     page.push(say("replace.new.change.go"))
-    take(page, [old[0], wrong, old[3]])
-    page.push(say("continue"))
-    page.wait_title(say("change.failed"))
+    take_all(page, [old[0], wrong, old[3]])
+    page.push(say("continue"), to=say("change.failed"))
     page.wait_text(said(51, first=0))
     pictures(page, see, "papers that don't belong together")
-    page.push(say("collect.back"))
-    page.wait_title(say("change.title"))
+    page.push(say("collect.back"), to=say("change.title"))
     page.push(say("collect.drop", name="0.1"))
-    take(page, [old[1]])
-    page.push(say("continue"))
-    page.wait_title(say("change.forms"))
-    page.push(say("clear"))
-    page.wait_title(say("home.title"))
+    take_all(page, [old[1]])
+    page.push(say("continue"), to=say("change.forms"))
+    clear(page)
 
 
 def check_wrong(page, see):
@@ -278,10 +218,8 @@ def check_wrong(page, see):
     for title, count in (("change.old.title", 3), ("change.new.title", 3)):
         page.wait_text(f"{say(title)}\n\n{say('drill.count', total=count)}")
     pictures(page, see, "what is tried")
-    page.push(say("drill.start"))
-    page.wait_title(say("change.unproved"))
-    for text in (say("verdict.some", wrong=2, quorums=counted(3, "quorum")), say("verdict.suspects.one", names="0.2"), say("change.old.wrong")):
-        page.wait_text(text)
+    page.push(say("drill.start"), to=say("change.unproved"))
+    page.wait_text(say("verdict.some", wrong=2, quorums=counted(3, "quorum")), say("verdict.suspects.one", names="0.2"), say("change.old.wrong"))
     check_green(page, [])
     if page.text().index(say("change.old.title")) > page.text().index(say("drill.caption")):
         raise Failed("nothing above the table says that its papers are the old ones")
@@ -292,7 +230,7 @@ def check_wrong(page, see):
 def check_stop(page, see):
     """What takes long tells how far it is, and stops. The papers stay."""
     begin(page, "change")
-    take(page, [changed(line, exponent=14) for line in THREE_GROUPS[3:]])
+    take_all(page, [changed(line, exponent=14) for line in THREE_GROUPS[3:]])
     page.push(say("continue"))
     page.choose(say("wallet.flag"))
     page.push(say("continue"))
@@ -303,25 +241,19 @@ def check_stop(page, see):
     page.push(say("stop"))
     page.wait_text(say("change.stopped"))
     for title in ("change.wallet", "change.plan", "change.title"):
-        page.push(say("back"))
-        page.wait_title(say(title))
+        page.push(say("back"), to=say(title))
     page.wait_text(say("collect.row", name="2.0", words=20))
-    page.push(say("clear"))
-    page.wait_title(say("home.title"))
+    clear(page)
     begin(page, "change")
-    take(page, old_papers(14)[3:])
+    take_all(page, old_papers(14)[3:])
     page.push(say("continue"))
     write(page, see, old_papers(14))
     page.push(say("change.bare"))
-    page.push(say("drill.start"))
-    page.wait_title(say("change.work"))
+    page.push(say("drill.start"), to=say("change.work"))
     check_bar(page)
-    page.push(say("stop"))
-    page.wait_title(say("change.noted"))
+    page.push(say("stop"), to=say("change.noted"))
     page.wait_text(say("change.stopped"))
-    page.push(say("clear"))
-    page.push(say("clear.yes"))
-    page.wait_title(say("home.title"))
+    clear(page, is_asked=True)
 
 
 def check_identifier(page, _):
@@ -338,12 +270,10 @@ def check_identifier(page, _):
             page.push(say("continue"))
             answer_passphrase(page, PASSPHRASE, FINGERPRINT)
         new = write(page, lambda _: None, lines)
-        check_new(new, lines, "2of3", share["extendable"], 0)
+        check_backups(lines, new, "2of3", share["extendable"])
         if plain.parse(new[0].encode())["id"] != int.from_bytes(DRAWN[:2], "big"):
             raise Failed("the random bytes that were to be drawn weren't")
-        page.push(say("clear"))
-        page.push(say("clear.yes"))
-        page.wait_title(say("home.title"))
+        clear(page, is_asked=True)
         page.call("browsingContext.reload", wait="complete")
         page.wait_title(say("home.title"))
 

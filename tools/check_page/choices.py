@@ -3,9 +3,12 @@ what one paper says."""
 import json
 
 from browsers import Failed
-from refusals import BAD_CHECKSUM, BIP39, changed, paste, said
-from tasks import FINGERPRINT, PASSPHRASE, SECRET, SOUND_PAPER, THREE_GROUPS, answer_passphrase, begin, choose_wallet, create, end, example, fingerprint_of, plain, read_paper, type_digits, type_paper
-from texts import ROOT, counted, say
+from refusals import said
+from samples import BAD_CHECKSUM, BIP39, FINGERPRINT, PASSPHRASE, ROOT, SECRET, SOUND_PAPER, THREE_GROUPS, TWO, changed, fingerprint_of, name_of, said_kind
+from tasks import answer_passphrase, begin, choose_wallet, clear, create, drill, end, paste, read_paper, type_digits, type_paper, type_passphrase, write_down
+from texts import counted, say
+
+import plain
 
 # The version that the page tells, as the package of the engine has it.
 VERSION = json.loads((ROOT / "bindings/js/package.json").read_text())["version"]
@@ -44,30 +47,23 @@ def check_green(page, wanted):
 def check_wallet(page, see):
     """The wallet must be said, and its number of words sets the length of a new secret. The answers stay on the way back."""
     begin(page, "make")
-    page.push(say("continue"))
-    page.wait_title(say("make.wallet"))
+    page.push(say("continue"), to=say("make.wallet"))
     page.push(say("continue"))
     page.wait_text(say("wallet.missing"))
     page.wait_text(f"only shamir {VERSION} was tried")
     see("which wallet")
     page.choose(say("wallet.older"))
-    if say("wallet.missing") in page.text():
-        raise Failed("what was missing stays after it was chosen")
-    page.push(say("back"))
-    page.wait_title(say("make.plan"))
+    page.lacks(say("wallet.missing"), "what was missing stays after it was chosen")
+    page.push(say("back"), to=say("make.plan"))
     for wallet in ("unknown", "older", "flag"):
         choose_wallet(page, wallet, 33)
-        for text in (say("secret.new.hint", bytes=32, words=33), say("passphrase.new")):
-            page.wait_text(text)
-        page.push(say("back"))
-        page.wait_title(say("make.wallet"))
+        page.wait_text(say("secret.new.hint", bytes=32, words=33), say("passphrase.new"))
+        page.push(say("back"), to=say("make.wallet"))
         for chosen in (say(f"wallet.{wallet}"), say("entry.words", count=33)):
-            if not page.is_true("(it) => it.getAttribute('aria-checked') === 'true'", page.node("radio", chosen)):
+            if not page.is_chosen(chosen):
                 raise Failed(f"on the way back, another wallet or number of words is chosen than {chosen!r}")
-        page.push(say("back"))
-        page.wait_title(say("make.plan"))
-    page.push(say("back"))
-    page.wait_title(say("home.title"))
+        page.push(say("back"), to=say("make.plan"))
+    page.push(say("back"), to=say("home.title"))
 
 
 # In place of the random bytes of the worker, these are drawn: 1, 8, 15, and so on. Before they are given, a script may change them.
@@ -101,15 +97,12 @@ def check_dice(page, see):
         page.tick(say("passphrase.none"))
         page.evaluate("document.querySelector('details').open = true; null")
         for typed, text in [(throws[:49], say("more.dice.few", count=49, least=count // 50 * 50)), ("7", say("more.dice.wrong")), (throws, "")]:
-            page.go_to("textbox", say("more.dice"))
-            page.evaluate("document.activeElement.select()")
-            page.type(typed)
+            page.retype(say("more.dice"), typed)
             if text:
                 page.push(say("make.create"))
                 page.wait_text(text)
         see("throws of a die")
-        page.push(say("make.create"))
-        page.wait_title(say("make.forms"))
+        page.push(say("make.create"), to=say("make.forms"))
         page.wait_text(say("more.dice.mixed"))
         check_green(page, [])
         page.push(say("forms.go"))
@@ -118,9 +111,7 @@ def check_dice(page, see):
         wanted = bytes(a ^ b for a, b in zip(mixed.to_bytes(len(share["value"]), "big"), DRAWN))
         if plain.decrypt(share["value"], b"", share) != wanted:
             raise Failed(f"{count} throws and the random bytes give another secret than their xor")
-        page.push(say("clear"))
-        page.push(say("clear.yes"))
-        page.wait_title(say("home.title"))
+        clear(page, is_asked=True)
     page.call("browsingContext.reload", wait="complete")
     page.wait_title(say("home.title"))
 
@@ -135,25 +126,20 @@ def check_dangers(page, see):
     for number, said in [(2, say("plan.lost.one", names="1.0")), (1, say("plan.found.one", names="1.0"))]:
         page.wait(lambda: said == page.evaluate("document.querySelector('main .bad:not([hidden])')?.innerText ?? ''"), f"the danger {said!r} in red")
         see("a plan with a danger")
-        page.push(say("continue"))
-        page.wait_title(say("plan.sure.title"))
+        page.push(say("continue"), to=say("plan.sure.title"))
         page.wait_text(said)
         check_green(page, [])
         see("whether the plan is meant")
-        page.push(say("plan.sure.back"))
-        page.wait_title(say("make.plan"))
+        page.push(say("plan.sure.back"), to=say("make.plan"))
         if number == 2:
             page.push(f"{say('plan.fewer')}: {say('plan.groups_needed')}")
     page.push(say("continue"))
-    page.push(say("plan.sure.yes"))
-    page.wait_title(say("make.wallet"))
+    page.push(say("plan.sure.yes"), to=say("make.wallet"))
     page.push(say("back"))
     page.choose(say("plan.two"))
     page.wait(lambda: not page.evaluate("document.querySelector('main .bad').checkVisibility()"), "the end of the danger")
-    page.push(say("continue"))
-    page.wait_title(say("make.wallet"))
-    page.push(say("clear"))
-    page.wait_title(say("home.title"))
+    page.push(say("continue"), to=say("make.wallet"))
+    clear(page)
 
 
 def make_own(page):
@@ -161,22 +147,17 @@ def make_own(page):
     begin(page, "make")
     choose_wallet(page)
     type_digits(page, SECRET, SECRET, FINGERPRINT)
-    for field in ("passphrase.label", "passphrase.again"):
-        page.fill(say(field), PASSPHRASE)
-    page.push(say("make.create"))
-    page.wait_title(say("make.forms"))
+    type_passphrase(page, PASSPHRASE, "passphrase.label", "passphrase.again")
+    page.push(say("make.create"), to=say("make.forms"))
     check_green(page, [say("secret.same")])
     page.push(say("forms.go"))
-    papers = []
-    for name in ("0.0", "0.1", "0.2"):
-        page.wait_title(say("paper.title", name=name))
+
+    def look(number):
+        page.wait_title(say("paper.title", name=f"0.{number - 1}"))
         check_green(page, [])
-        papers.append(read_paper(page))
-        page.push(say("paper.written"))
-    page.wait_title(say("back.begin.title"))
-    page.push(say("continue"))
-    for name, line in zip(("0.0", "0.1", "0.2"), papers):
-        page.wait_title(say("back.title", name=name))
+
+    for number, line in enumerate(write_down(page, look)):
+        page.wait_title(say("back.title", name=f"0.{number}"))
         paste(page, line)
     page.wait_title(say("noted.title.own"))
     page.wait_text(FINGERPRINT)
@@ -185,38 +166,27 @@ def make_own(page):
 def check_notes(page, see):
     """What was noted is asked for, and compared, before a backup is made. A wrong passphrase and a wrong fingerprint are told apart."""
     make_own(page)
-    page.push(say("noted.skip"))
-    page.wait_title(say("proof.title"))
+    page.push(say("noted.skip"), to=say("proof.title"))
     if FINGERPRINT in page.text() or not page.is_true("(it) => it.checked", page.node("checkbox", say("noted.none"))):
         raise Failed("the fingerprint is shown while it is asked for, or the page forgets that none was noted")
-    page.push(say("proof.show"))
-    page.wait_title(say("noted.title.own"))
-    page.push(say("noted.done"))
-    page.wait_title(say("proof.title"))
+    page.push(say("proof.show"), to=say("noted.title.own"))
+    page.push(say("noted.done"), to=say("proof.title"))
     answer_passphrase(page, PASSPHRASE, "01234567")
     page.wait_text(say("proof.other"))
     see("another fingerprint than the backup has")
     if not page.is_true(f"(it) => it.value === '{PASSPHRASE}'", page.node("textbox", say("passphrase.label"))):
         raise Failed("a mistyped fingerprint empties the passphrase")
     for label, text in [("passphrase.label", ""), ("noted.label", FINGERPRINT)]:
-        page.go_to("textbox", say(label))
-        page.evaluate("document.activeElement.select()")
-        page.press("Backspace")
-        page.type(text)
+        page.retype(say(label), text)
     for passphrase, text in [(None, "proof.passphrase.none"), ("TREZOr", "proof.passphrase")]:
-        answer_passphrase(page, passphrase, FINGERPRINT)
-        page.push(say("drill.start"))
+        drill(page, passphrase, FINGERPRINT)
         page.wait_title(say("make.failed.title"))
         page.wait_text(say(text))
         check_green(page, [])
         see(f"what was noted is wrong {passphrase}")
-        page.push(say("proof.again"))
-        page.wait_title(say("proof.title"))
-    page.go_to("textbox", say("noted.label"))
-    page.evaluate("document.activeElement.select()")
-    page.press("Backspace")
-    answer_passphrase(page, PASSPHRASE, None)
-    page.push(say("drill.start"))
+        page.push(say("proof.again"), to=say("proof.title"))
+    page.retype(say("noted.label"), "")
+    drill(page, PASSPHRASE, None)
     page.wait_text(say("verdict.all.own", quorums=counted(3, "quorum"), fingerprint=FINGERPRINT))
     page.wait_title(say("make.done"))
     page.wait_text(say("make.restore"))
@@ -239,8 +209,7 @@ def check_looks_of_results(page, see):
     page.push(say("collect.end"))
     for fingerprint, which in [(None, "same"), (noted, "noted")]:
         said = say(f"verdict.all.{which}", quorums=counted(1, "quorum"), fingerprint=noted)
-        answer_passphrase(page, PASSPHRASE, fingerprint)
-        page.push(say("drill.start"))
+        drill(page, PASSPHRASE, fingerprint)
         page.wait_text(said)
         page.wait_title(say("check.done.good" if fingerprint else "check.done.same"))
         check_green(page, [said] if fingerprint else [])
@@ -250,37 +219,24 @@ def check_looks_of_results(page, see):
     end(page)
 
 
-def said_kind(line):
-    """Returns what the page must say of a paper, by the plain reading."""
-    share = plain.parse(line.encode())
-    members, groups = share["member_threshold"] - 1, share["group_threshold"] - 1
-    papers, whole = counted(members, "paper"), counted(groups, "whole")
-    others = {
-        (False, False): say("what.others.none"),
-        (True, False): say("what.others.papers" if share["group_count"] == 1 else "what.others.group", papers=papers, group=share["group"]),
-        (False, True): say("what.others.groups", groups=whole),
-        (True, True): say("what.others.both", papers=papers, group=share["group"], groups=whole),
-    }[members > 0, groups > 0]
-    flag = say("what.flag" if share["extendable"] else "what.flag.none")
-    first, second = line.split()[:2]
-    return [say("what.backup", first=first, second=second), others, flag, say("what.exponent", exponent=share["exponent"]), say("what.secret", bytes=len(share["value"]))]
-
-
 def told_of(page):
     """Returns the lines that tell what a paper is."""
     return page.evaluate("[...document.querySelectorAll('.told li')].map((it) => it.innerText).join('\\n')").split("\n")
 
 
+def is_told(page, line):
+    return set(said_kind(line, say, counted)) <= set(told_of(page))
+
+
 def check_what(page, see):
     """One paper says what it is. A damaged one doesn't, nor does a phrase of BIP-39."""
     begin(page, "what")
-    lines = [SOUND_PAPER, example("two-needed.txt")[0], *THREE_GROUPS[2:4], changed(SOUND_PAPER, extendable=1, exponent=3), changed(THREE_GROUPS[0], group_threshold=1)]
+    lines = [SOUND_PAPER, TWO[0], *THREE_GROUPS[2:4], changed(SOUND_PAPER, extendable=1, exponent=3), changed(THREE_GROUPS[0], group_threshold=1)]
     for line in lines:
-        share = plain.parse(line.encode())
         paste(page, line)
-        page.wait_text(say("what.sound", name=f"{share['group']}.{share['member']}"))
+        page.wait_text(say("what.sound", name=name_of(line)))
         # The paper before may have the same name, and its answer may still stand there.
-        page.wait(lambda: set(said_kind(line)) <= set(told_of(page)), f"what {line!r} is")
+        page.wait(lambda: is_told(page, line), f"what {line!r} is")
         if len(told_of(page)) != 6:
             raise Failed(f"the page says of {line!r}: {told_of(page)}")
         if line == THREE_GROUPS[2]:
@@ -288,7 +244,7 @@ def check_what(page, see):
     check_green(page, [])
     page.size(*PHONE)
     paste(page, THREE_GROUPS[2])
-    page.wait(lambda: set(said_kind(THREE_GROUPS[2])) <= set(told_of(page)), "what a paper is, on a phone")
+    page.wait(lambda: is_told(page, THREE_GROUPS[2]), "what a paper is, on a phone")
     page.wait(lambda: page.evaluate(IN_SIGHT % "document.querySelector('.told')"), "what a paper is in sight of its fields")
     see("phone what a paper is")
     page.size(1200, 900)
@@ -306,8 +262,7 @@ def check_what(page, see):
     if page.evaluate("[...document.querySelectorAll('.offers')].some((it) => it.checkVisibility())"):
         raise Failed("words of SLIP-0039 are offered in place of those of BIP-39")
     see("a phrase of BIP-39")
-    page.push(say("clear"))
-    page.wait_title(say("home.title"))
+    clear(page)
 
 
 # Returns how many rows and columns things have, in the order down the columns, or why there is no such order.
@@ -349,14 +304,12 @@ def check_phone(page, see):
         if what == "wallet":
             page.size(1200, 900)
             begin(page, "make")
-            page.push(say("continue"))
-            page.wait_title(say("make.wallet"))
+            page.push(say("continue"), to=say("make.wallet"))
         page.size(*PHONE)
         if page.evaluate(CUT):
             raise Failed(f"on a screen that got narrower, texts don't fit into their boxes: {page.evaluate(CUT)}")
     see("phone wallet")
-    page.push(say("clear"))
-    page.wait_title(say("home.title"))
+    clear(page)
     begin(page, "check")
     if not page.evaluate(ONE_LINE):
         raise Failed("the numbers of words don't stand in one line")
@@ -380,8 +333,7 @@ def check_phone(page, see):
             page.press("Enter")
             page.wait_text(say("entry.nothing"))
             page.wait(lambda: page.evaluate(IN_SIGHT % "document.querySelector('.answer')"), "the answer in sight")
-    page.push(say("clear"))
-    page.wait_title(say("home.title"))
+    clear(page)
     begin(page, "make")
     choose_wallet(page)
     page.tick(say("passphrase.none"))
@@ -393,9 +345,7 @@ def check_phone(page, see):
     beyond = page.evaluate("document.documentElement.scrollHeight - innerHeight")
     if beyond > 0:
         raise Failed(f"the screen of a paper is {beyond} pixels higher than a phone, so it scrolls a little")
-    page.push(say("clear"))
-    page.push(say("clear.yes"))
-    page.wait_title(say("home.title"))
+    clear(page, is_asked=True)
     page.size(1200, 900)
 
 
@@ -405,8 +355,7 @@ def check_help(page, see):
     if asked != 10 or say("help.lost.answer") in page.text():
         raise Failed(f"the first screen has {asked} questions, or an answer that wasn't asked for")
     page.evaluate("for (const it of document.querySelectorAll('.help details')) it.open = true; null")
-    for text in (say("help.heir.answer"), say("help.lost.answer")):
-        page.wait_text(text)
+    page.wait_text(say("help.heir.answer"), say("help.lost.answer"))
     see("help")
     page.evaluate("for (const it of document.querySelectorAll('.help details')) it.open = false; null")
     begin(page, "what")
@@ -414,8 +363,7 @@ def check_help(page, see):
     page.wait_text(said(18, first=20))
     if page.evaluate("document.querySelector('.answer').textContent") != said(18, first=20):
         raise Failed("a refusal has more than its sentence")
-    page.push(say("clear"))
-    page.wait_title(say("home.title"))
+    clear(page)
 
 
 CHECKS = [check_help, check_phone, check_wallet, check_dice, check_dangers, check_notes, check_looks_of_results, check_what]

@@ -8,6 +8,7 @@ import tempfile
 from browsers import Failed
 from left_out import is_here
 from texts import ROOT
+from tool import ran
 
 TABLE = ROOT / "tools/decisions.json"
 RUNNER = pathlib.Path(__file__).resolve().parent / "decisions.mjs"
@@ -28,10 +29,7 @@ def check(root=ROOT):
         shutil.copytree(root / "bindings/js", folder / "bindings/js", ignore=shutil.ignore_patterns("node_modules"))
         # So Node takes the sources for modules.
         (folder / "package.json").write_text('{ "type": "module" }\n')
-        done = subprocess.run(["node", str(RUNNER), str(folder), str(engine()), str(TABLE)], capture_output=True, text=True)
-    if done.returncode:
-        raise Failed(f"decisions: {done.stderr[-900:]}")
-    *different, count = done.stdout.splitlines()
+        *different, count = ran(["node", RUNNER, folder, engine(), TABLE], stderr=subprocess.PIPE).splitlines()
     if different:
         raise Failed(f"{len(different)} decisions of the page aren't those of tools/decisions.json, such as {different[0][:900]}")
     if int(count) != sum(map(len, json.loads(TABLE.read_text()).values())):

@@ -1,27 +1,24 @@
 """The entry of a paper: keys that end a word, words that were not read, and what can be read of a damaged paper."""
 from browsers import Failed
-from refusals import BAD_CHECKSUM, BAD_PADDING, EXCHANGED, SOUND, changed, paste, said
-from tasks import begin, end, example, found_words, plain, type_damaged
+from refusals import said
+from samples import BAD_CHECKSUM, BAD_PADDING, EXCHANGED, SOUND_PAPER, TWO, changed, name_of, with_words
+from tasks import begin, clear, end, found_words, paste, type_damaged
 from texts import counted, say
 
 
 def check_unread(page, see):
     """Words that stand in the fields and were not read aren't dropped: the page asks. Of a backup with one group, it counts papers."""
-    two = example("two-needed.txt")
     begin(page, "check")
     page.push(say("entry.read"))
     page.wait_text(say("entry.nothing"))
-    page.go_to("textbox", say("entry.word", number=1))
-    page.type("du")
+    page.fill(say("entry.word", number=1), "du")
     page.wait(lambda: say("entry.nothing") not in page.text(), "the end of an answer to empty fields")
     page.press("Backspace", "Backspace")
-    paste(page, two[0])
+    paste(page, TWO[0])
     page.wait_text(say("status.not_enough", needed=counted(2, "paper"), here=1))
-    if "roup" in page.text():
-        raise Failed(f"the page speaks of groups, and the backup has one: {page.text()!r}")
-    for what, typed in [("a refused paper", BAD_CHECKSUM), ("half a paper", " ".join(two[1].split()[:9]))]:
-        page.go_to("textbox", say("entry.word", number=1))
-        page.type(typed + " ")
+    page.lacks("roup", f"the page speaks of groups, and the backup has one: {page.text()!r}")
+    for what, typed in [("a refused paper", BAD_CHECKSUM), ("half a paper", " ".join(TWO[1].split()[:9]))]:
+        page.fill(say("entry.word", number=1), typed + " ")
         if what == "a refused paper":
             page.wait_text(said(18, first=20))
         page.push(say("collect.end"))
@@ -34,8 +31,7 @@ def check_unread(page, see):
         see("words that were not read")
         if what == "a refused paper":
             page.push(say("entry.empty"))
-    page.push(say("collect.unread.drop"))
-    page.wait_title(say("check.done.few"))
+    page.push(say("collect.unread.drop"), to=say("check.done.few"))
     end(page)
 
 
@@ -44,7 +40,7 @@ def check_keys(page, _):
     begin(page, "check")
     for key in ("Enter", "Tab"):
         for count in (4, 8):
-            for at, word in enumerate(SOUND.split()):
+            for at, word in enumerate(SOUND_PAPER.split()):
                 page.type(word[:count])
                 page.press(key)
                 if at == 6 and not page.has_focus(page.node("textbox", say("entry.word", number=8))):
@@ -53,8 +49,7 @@ def check_keys(page, _):
             page.wait_text(say("collect.taken", name="0.0"))
             page.push(say("collect.drop", name="0.0"))
             page.wait_text(say("collect.dropped", name="0.0"))
-    page.push(say("clear"))
-    page.wait_title(say("home.title"))
+    clear(page)
 
 
 # Papers whose words run together if only four letters of each are typed, or only as many as make a word.
@@ -69,23 +64,20 @@ def check_habits(page, _):
     words = page.evaluate("in_client.Desk.launch().then((it) => it.end().then(() => it.begun.words.join(' ')))").split()
     least = {word: next(word[:count] for count in range(1, len(word) + 1) if sum(it.startswith(word[:count]) for it in words) == 1) for word in words}
     for line in CLOSE:
-        name = "{group}.{member}".format(**plain.parse(line.encode()))
         for what, short in [("four letters", lambda word: word[:4]), ("whole words", lambda word: word), ("a part", least.get)]:
             # What was learnt of one owner's typing isn't true of the next.
             begin(page, "check")
             page.type("".join(short(word) for word in line.split()))
-            page.wait(lambda: say("collect.taken", name=name) in page.text(), f"the paper {line!r}, of which {what} of each word were typed")
-            page.push(say("clear"))
-            page.wait_title(say("home.title"))
+            page.wait(lambda: say("collect.taken", name=name_of(line)) in page.text(), f"the paper {line!r}, of which {what} of each word were typed")
+            clear(page)
 
 
 def check_mistyped(page, see):
     """A wrong letter in the rest of a word that is complete goes into no other field. The page says at which word to look."""
-    words = SOUND.split()
+    words = SOUND_PAPER.split()
     begin(page, "check")
     for key in (" ", "Enter", "Tab"):
-        page.go_to("textbox", say("entry.word", number=1))
-        page.type(" ".join(words[:7]) + (" soluton" if key != "Tab" else " solutios") + (key if key == " " else ""))
+        page.fill(say("entry.word", number=1), " ".join(words[:7]) + (" soluton" if key != "Tab" else " solutios") + (key if key == " " else ""))
         if key != " ":
             page.press(key)
         page.wait_text(say("entry.mistyped", number=8))
@@ -98,8 +90,7 @@ def check_mistyped(page, see):
         page.wait_text(say("collect.taken", name="0.0"))
         page.push(say("collect.drop", name="0.0"))
         page.wait_text(say("collect.dropped", name="0.0"))
-    page.push(say("clear"))
-    page.wait_title(say("home.title"))
+    clear(page)
 
 
 # Three letters make each of these words, and four are typed. The fourth letter of 'academic', with those of the last word, begins 'damage'.
@@ -109,8 +100,7 @@ FOUR = "daughter necklace lyrics briefing funding network keyboard moment academ
 def check_guessed(page, see):
     """A word that can be read in two ways, between which only the typist's habit decides, is one to look at."""
     begin(page, "check")
-    page.go_to("textbox", say("entry.word", number=1))
-    page.type("".join(word[:4] for word in FOUR.split()))
+    page.fill(say("entry.word", number=1), "".join(word[:4] for word in FOUR.split()))
     page.wait_text(say("entry.guessed", number=10))
     typed = page.evaluate("[...document.querySelectorAll('.word input')].map((it) => it.value).join(' ')").strip()
     if not typed.startswith(FOUR):
@@ -118,8 +108,7 @@ def check_guessed(page, see):
     if page.evaluate("[...document.querySelectorAll('.word')].map((it, at) => it.classList.contains('doubt') ? at + 1 : '').join('')") != "10":
         raise Failed("the word that habit decided isn't marked, or another word is")
     see("a word that habit decided")
-    page.push(say("clear"))
-    page.wait_title(say("home.title"))
+    clear(page)
 
 
 LEAVING = """
@@ -140,7 +129,7 @@ def check_kept(page, see):
         if page.evaluate(LEAVING):
             raise Failed("leaving a page with nothing on it asks")
         page.push(say("entry.words", count=33))
-        paste(page, " ".join((SOUND + " " + SOUND).split()[:25]))
+        paste(page, " ".join((SOUND_PAPER + " " + SOUND_PAPER).split()[:25]))
         if not page.evaluate(LEAVING):
             raise Failed("leaving a page on which words were pasted asks nothing")
         for count, number in [(20, 20), (33, 25)]:
@@ -154,43 +143,39 @@ def check_kept(page, see):
         if page.evaluate(filled) != 25:
             raise Failed("the answer that goes back to the words loses them")
         page.push(say("back"))
-        page.push(say("entry.lost.go"))
-        page.wait_title(say("home.title"))
+        page.push(say("entry.lost.go"), to=say("home.title"))
 
 
-def with_words(changes):
-    """Returns the sound paper with other marks at some places, counted from 1."""
-    words = SOUND.split()
-    for place, mark in changes.items():
-        words[place - 1] = mark
-    return " ".join(words)
+def of_sound(changes):
+    """Returns the sound paper with other marks at some places."""
+    return with_words(SOUND_PAPER, changes)
 
 
-def listed(changes, line=SOUND):
+def listed(changes, line=SOUND_PAPER):
     """Returns what the page lists of words that were found at these places."""
     return ", ".join(f"{say('entry.word', number=place)} {line.split()[place - 1]}" for place in changes)
 
 
-OTHER = with_words({1: "therapy", 2: "heat", 3: "device"})
+OTHER = of_sound({1: "therapy", 2: "heat", 3: "device"})
 # What can be read of a paper, and what the page says: the words that it found in each paper that fits, or why it found none. The
 # first ones are typed, and the others pasted.
 TYPED = 3
 DAMAGED = [
-    (with_words({7: "le?", 8: "so?"}), [listed([7, 8])], ""),
-    (" ".join(f"{word[:4]}?" for word in SOUND.split()), [listed(range(1, 21))], ""),
-    (with_words({1: "?", 2: "?", 3: "?"}), [listed([1, 2, 3]), listed([1, 2, 3], OTHER)], ""),
-    (f"{SOUND} ?", [], said(12, first=21)),
-    (with_words({5: "?", 12: "?"}), [listed([5, 12])], ""),
-    (with_words({18: "?", 19: "?", 20: "?"}), [listed([18, 19, 20])], ""),
-    (SOUND, [say("damaged.whole")], ""),
-    (with_words({17: "?", 18: "?", 19: "?", 20: "?"}), [], say("damaged.refused.19", first=4)),
-    (with_words({7: "lend"}), [], say("damaged.refused.18", first=7)),
-    (with_words({20: "kidney"}), [], say("damaged.refused.18", first=20)),
+    (of_sound({7: "le?", 8: "so?"}), [listed([7, 8])], ""),
+    (" ".join(f"{word[:4]}?" for word in SOUND_PAPER.split()), [listed(range(1, 21))], ""),
+    (of_sound({1: "?", 2: "?", 3: "?"}), [listed([1, 2, 3]), listed([1, 2, 3], OTHER)], ""),
+    (f"{SOUND_PAPER} ?", [], said(12, first=21)),
+    (of_sound({5: "?", 12: "?"}), [listed([5, 12])], ""),
+    (of_sound({18: "?", 19: "?", 20: "?"}), [listed([18, 19, 20])], ""),
+    (SOUND_PAPER, [say("damaged.whole")], ""),
+    (of_sound({17: "?", 18: "?", 19: "?", 20: "?"}), [], say("damaged.refused.19", first=4)),
+    (of_sound({7: "lend"}), [], say("damaged.refused.18", first=7)),
+    (of_sound({20: "kidney"}), [], say("damaged.refused.18", first=20)),
     (EXCHANGED, [], say("damaged.refused.13")),
-    (with_words({7: "ze?"}), [], say("damaged.refused.18", first=7)),
-    (with_words({5: "?", 7: "solution", 8: "length"}), [], say("damaged.refused.17")),
+    (of_sound({7: "ze?"}), [], say("damaged.refused.18", first=7)),
+    (of_sound({5: "?", 7: "solution", 8: "length"}), [], say("damaged.refused.17")),
     (BAD_PADDING, [], said(14)),
-    (changed(SOUND, group_threshold=16), [], said(15)),
+    (changed(SOUND_PAPER, group_threshold=16), [], said(15)),
 ]
 
 
@@ -220,26 +205,25 @@ def check_damaged(page, see):
         if found and any(mark.endswith("?") and len(mark) < 5 for mark in line.split()):
             deny(page, "damaged.no.which" if len(found) == 2 else "damaged.no", line)
     page.push(say("entry.empty"))
-    paste(page, with_words({5: "?", 7: "leng?"}))
+    paste(page, of_sound({5: "?", 7: "leng?"}))
     page.wait_text(say("damaged.limits.1"))
     page.push(say("entry.empty"))
-    paste(page, "slip39\nPaper 0.0\n" + with_words({7: "lend"}))
+    paste(page, "slip39\nPaper 0.0\n" + of_sound({7: "lend"}))
     page.wait_text(say("damaged.refused.18", first=7))
     page.type("leng ")
     page.wait(lambda: found_words(page) == say("damaged.whole"), "a word that was typed anew")
-    type_damaged(page, with_words({7: "zz?"}))
+    type_damaged(page, of_sound({7: "zz?"}))
     page.wait_text(say("damaged.mark", number=7))
     page.wait_text(say("damaged.refused.11", first=7))
     see("a mark that stands for no word")
     page.push(say("damaged.offer", mark="?"))
     page.wait(lambda: found_words(page) == listed([7]), "the word that was left open")
-    type_damaged(page, with_words({7: "le"}))
+    type_damaged(page, of_sound({7: "le"}))
     page.wait_text(say("entry.several", number=7))
     see("a word that isn't complete")
     page.push(say("damaged.offer.rest", mark="le?"))
     page.wait(lambda: found_words(page) == listed([7]), "the word that was left open in part")
-    page.push(say("clear"))
-    page.wait_title(say("home.title"))
+    clear(page)
 
 
 # Whether the number of words is asked for, and how many fields are shown.
@@ -251,13 +235,12 @@ def check_known_count(page, see):
     begin(page, "damaged")
     if page.evaluate(COUNTED) != "true 20":
         raise Failed("the number of words of a damaged paper isn't asked for")
-    paste(page, with_words({6: "?"}))
+    paste(page, of_sound({6: "?"}))
     page.push(say("damaged.write", name="0.0"))
-    page.push(say("paper.written"))
-    page.wait_title(say("back.title", name="0.0"))
+    page.push(say("paper.written"), to=say("back.title", name="0.0"))
     for typed, told, counted_as in [
-        (" ".join(SOUND.split()[:2]), say("back.missing", number=3, count=2, fields=20), "false 20"),
-        (f"{SOUND} acid", said(12, first=21), "true 21"),
+        (" ".join(SOUND_PAPER.split()[:2]), say("back.missing", number=3, count=2, fields=20), "false 20"),
+        (f"{SOUND_PAPER} acid", said(12, first=21), "true 21"),
     ]:
         paste(page, typed)
         page.wait_text(told)
@@ -267,10 +250,9 @@ def check_known_count(page, see):
         page.push(say("entry.empty"))
         if page.evaluate(COUNTED) != "false 20":
             raise Failed("the number of words is asked for though nothing is typed of a paper that is typed back")
-    paste(page, SOUND)
+    paste(page, SOUND_PAPER)
     page.wait_title(say("damaged.check.title"))
-    page.push(say("clear"))
-    page.wait_title(say("home.title"))
+    clear(page)
 
 
 CHECKS = [check_unread, check_keys, check_habits, check_guessed, check_mistyped, check_kept, check_damaged, check_known_count]

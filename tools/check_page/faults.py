@@ -1,10 +1,7 @@
 """Faults that are planted in a copy of the sources. Each must make a check fail, or the check is worth nothing."""
-import concurrent.futures
-import pathlib
+import functools
 import shutil
-import subprocess
 import sys
-import tempfile
 
 import agreement
 import astray
@@ -18,8 +15,10 @@ import hasty
 import journey
 import long_drill
 import looks
+import planted
 import privacy
 import refusals
+import samples
 import second_thoughts
 import sources
 import steps
@@ -27,21 +26,13 @@ import tasks
 import typists
 import ways_out
 import webkit
-from browsers import Failed, browser
+from browsers import browser
 from hands import Page
-from texts import say
+from texts import ROOT, say
+from tool import ran
 
-ROOT = pathlib.Path(__file__).resolve().parent.parent.parent
 # So many faults are looked for side by side.
 AT_ONCE = 3
-
-
-def build(folder, engine, output):
-    """Puts the sources of a folder into a file."""
-    words = [sys.executable, str(ROOT / "tools/page"), "--sources", str(folder / "page"), "--engine", str(engine), "--output", str(output)]
-    done = subprocess.run(words, capture_output=True, text=True)
-    if done.returncode:
-        raise Failed(done.stderr.strip())
 
 
 def of_page(check):
@@ -60,7 +51,7 @@ def unseen(_):
     pass
 
 
-# What is planted, where, in place of what, and the check that must fail.
+# What is planted, where, what stands there, what takes its place, and the check that must fail; then how often it stands there, if more than once.
 FAULTS = [
     ("a request from the worker", "page/desk.js", "function clear() {\n", "function clear() {\n  fetch('http://127.0.0.1/');\n", lambda folder, url: sources.check(folder / "page")),
     ("a field that the browser keeps", "page/dom.js", '  autocomplete: "off",\n', "", lambda folder, url: sources.check(folder / "page")),
@@ -76,7 +67,7 @@ FAULTS = [
     ("without a noted fingerprint, a repaired paper is called right", "page/result.js", 'result === "good" && isNoted ? tried', 'result === "good" ? tried', of_page(lambda page: astray.check_untried(page, unseen))),
     ("complete groups are asked for that there can't be", "page/missing.js", '? "all" : "";', '? "" : "";', of_page(lambda page: astray.check_lost(page, unseen))),
     ("a passphrase that wasn't typed is called mistyped", "page/desk.js", "hasPassphrase: () => held.passphrase.length > 0", "hasPassphrase: () => true", of_page(lambda page: astray.check_without(page, unseen))),
-    ("the module's memory isn't cleared", "bindings/js/calls.js", ".fill(0", ".slice(0", of_page(agreement.check_memory)),
+    ("the module's memory isn't cleared", "bindings/js/calls.js", ".fill(0", ".slice(0", of_page(agreement.check_memory), 3),
     ("a wrong word is replaced", "page/word_field.js", "    else {\n      this.#mark(true);\n", "    else {\n      this.set(nearest(this.#list, this.word)[0]);\n", of_page(lambda page: refusals.check_words(page, unseen))),
     ("another paper is taken for the right one", "page/desk.js", "const found = beside(engine, line, held.shown[index]);", 'const found = "same";', of_page(lambda page: tasks.check_make(page, unseen))),
     ("words that weren't read are left out", "page/collect.js", "if (!this.#entry.isEmpty) {", "if (false) {", of_page(lambda page: entry.check_unread(page, unseen))),
@@ -89,7 +80,7 @@ FAULTS = [
     ("digits are typed once", "page/make_backup.js", 'return typed === again ? this.#noted.missing() : say("secret.differ");', "return this.#noted.missing();", of_page(lambda page: refusals.check_values(page, unseen))),
     ("without a noted fingerprint, no fault is found", "page/result.js", '  if (!isNoted) return "same";\n', "", of_page(lambda page: tasks.check_replace(page, unseen))),
     ("no more papers can be typed", "page/collect.js", '{ key: "papers", label: say("collect.more"), kind: "primary" },', "", of_page(lambda page: refusals.check_papers(page, unseen))),
-    ("digits of a wrong secret", "page/recover.js", 'which === "other" ? [] :', "false ? [] :", of_page(lambda page: tasks.check_recover(page, unseen))),
+    ("digits of a wrong secret", "page/recover.js", 'which === "other" ? [] :', "false ? [] :", of_page(lambda page: tasks.check_recover(page, unseen)), 2),
     ("a bad checksum names no word", "page/kind.js", "zero(...engine.repairBytes(line));", "engine.version();", of_page(lambda page: refusals.check_papers(page, unseen))),
     ("a wrong word's place is counted from 0", "page/refusals.js", "[error.refused.details[0] - 1]", "[error.refused.details[0]]", of_page(lambda page: refusals.check_papers(page, unseen))),
     ("one of two papers that fit isn't shown", "page/read_damaged.js", "const fits = possible.map(", "const fits = possible.slice(0, 1).map(", of_page(lambda page: entry.check_damaged(page, unseen))),
@@ -114,7 +105,7 @@ FAULTS = [
     ("a plan with a danger isn't asked about", "page/plan_choice.js", 'if (dangers === "") return true;', "if (true) return true;", of_page(lambda page: choices.check_dangers(page, unseen))),
     ("the wallet needn't be said", "page/wallet.js", 'chosen.wallet === null ? say("wallet.missing") : null', "null", of_page(lambda page: choices.check_wallet(page, unseen))),
     ("papers for an older wallet have the flag", "page/make_backup.js", 'extendable: wallet === "flag"', "extendable: true", of_page(lambda page: tasks.check_make(page, unseen))),
-    ("a text promises that one paper tells nothing", "page/texts.js", "and a thief hasn't.", "and a thief learns nothing.", lambda folder, url: sources.check(folder / "page")),
+    ("a text promises that one paper tells nothing", "page/texts.js", "and a thief hasn't.", "and a thief learns nothing.", lambda folder, url: sources.check(folder / "page"), 2),
     ("another fingerprint than the backup has is taken", "page/note_and_drill.js", 'given !== "" && given !== fingerprint', "false", of_page(lambda page: choices.check_notes(page, unseen))),
     ("the passphrase that was noted isn't tried", "page/passphrase.js", '  await desk.ask("passphrase", { passphrase: typed.passphrase }, [typed.passphrase.buffer]);\n', "", of_page(lambda page: choices.check_notes(page, unseen))),
     ("a new backup needs no noted fingerprint", "page/note_and_drill.js", "mayLack: isOwn", "mayLack: true", of_page(lambda page: tasks.check_make(page, unseen))),
@@ -172,7 +163,7 @@ FAULTS = [
     ("'33 words' stands in a second line", "page/style.css", ".counts button.small { min-height: 2.9rem; white-space: nowrap; }", ".counts button.small { min-height: 2.9rem; width: 9rem; }", of_page(lambda page: choices.check_phone(page, unseen))),
     ("throws of a die take the place of random bytes", "page/dice.js", "byte ^ own[at]", "own[at]", of_page(lambda page: choices.check_dice(page, unseen))),
     ("throws of a die aren't mixed in", "page/desk.js", "  else mix(secret, dice);\n", "", of_page(lambda page: choices.check_dice(page, unseen))),
-    ("old papers aren't cleared", "page/desk.js", "...held.old, ", "", of_page(agreement.check_memory)),
+    ("old papers aren't cleared", "page/desk.js", "...held.old, ", "", of_page(agreement.check_memory), 2),
     ("the secret is shown while the plan changes", "page/change_plan.js", 'paragraph(say("change.thief"))', f'paragraph(say("change.thief") + " {tasks.SECRET}")', of_page(lambda page: change.check_bare(page, unseen))),
     ("a new backup is made with another passphrase", "page/anew.js", "{ passphrase, exponent, extendable });", "{ exponent, extendable });", of_page(lambda page: change.check_renewed(page, unseen))),
     ("a new backup has another exponent", "page/anew.js", "{ passphrase, exponent, extendable });", "{ passphrase, exponent: 1, extendable });", of_page(lambda page: change.check_renewed(page, unseen))),
@@ -233,7 +224,7 @@ if not webkit.missing():
 
 def hidden_words(page):
     tasks.begin(page, "damaged")
-    tasks.type_damaged(page, tasks.SOUND_PAPER.replace("agency", "?"))
+    tasks.type_damaged(page, samples.SOUND_PAPER.replace("agency", "?"))
     page.wait(lambda: tasks.found_words(page), "the words that fit")
     looks.check_hidden_words(page)
 
@@ -248,46 +239,22 @@ def hidden(page):
     looks.check_hidden(page)
 
 
-def copied(folder):
+def plant(engine, folder, path, old, new, check_it, times=1):
+    """Plants a fault in a copy of the sources, or in the page that is made of them. Returns what looks for it."""
     shutil.copytree(ROOT / "page", folder / "page", ignore=shutil.ignore_patterns("out"))
     shutil.copytree(ROOT / "bindings/js", folder / "bindings/js")
+    target, made = folder / path, folder / "shamir.html"
+    build = [sys.executable, ROOT / "tools/page", "--sources", folder / "page", "--engine", engine, "--output", made]
+    if target == made:
+        ran(build)
+    target.write_text(planted.changed(target.read_text(), old, new, path, times))
+    if target != made:
+        ran(build)
+    return lambda: check_it(folder, made.as_uri())
 
 
-def planted(folder, path, old, new, engine):
-    """Plants a fault in a copy, and returns the address of its page."""
-    output = folder / "shamir.html"
-    if path == "shamir.html":
-        build(folder, engine, output)
-    target = folder / path
-    text = target.read_text()
-    if old not in text:
-        raise Failed(f"{path} hasn't {old!r}, so nothing can be planted there")
-    target.write_text(text.replace(old, new))
-    if path != "shamir.html":
-        build(folder, engine, output)
-    return output.as_uri()
-
-
-def check(engine, tell):
-    """Plants each fault. Raises Failed if a check doesn't find one."""
+def check(engine):
+    """Plants each fault."""
     # What a fault keeps from coming is awaited for less.
     hands.PATIENCE = 20
-    with concurrent.futures.ThreadPoolExecutor(AT_ONCE) as pool:
-        missed = [it for it in pool.map(lambda fault: missed_fault(fault, engine, tell), FAULTS) if it]
-    if missed:
-        raise Failed(f"these planted faults aren't found: {', '.join(missed)}")
-
-
-def missed_fault(fault, engine, tell):
-    """Plants a fault. Returns its name if its check doesn't find it."""
-    what, path, old, new, check_it = fault
-    with tempfile.TemporaryDirectory() as name:
-        folder = pathlib.Path(name)
-        copied(folder)
-        url = planted(folder, path, old, new, engine)
-        try:
-            check_it(folder, url)
-        except Failed as found:
-            tell(f"planted: {what}: {str(found)[:150]}")
-            return None
-    return what
+    planted.check(FAULTS, functools.partial(plant, engine), AT_ONCE)

@@ -1,6 +1,6 @@
 """The blank forms: which are printed, and what the engine refuses."""
 from browsers import Failed
-from tasks import begin, choose_wallet, read_paper
+from tasks import begin, choose_wallet, clear, read_paper
 from texts import say
 
 # What each form has besides its name, its plan and its lines for words.
@@ -19,13 +19,29 @@ GUTTER = """
 SHOW_AS = "for (const it of document.styleSheets[0].cssRules) if (it.media?.mediaText === '%s') it.media.mediaText = '%s'; null"
 
 
+def watch_printing(page):
+    page.evaluate("window.printed = false; window.print = () => { window.printed = true }; null")
+
+
+def print_forms(page):
+    """Lets the page print forms. Returns their names, how many lines each has, and the number of sheets."""
+    page.push(say("blank.print"))
+    page.wait(lambda: page.evaluate("window.printed ?? false"), "the printing")
+    names = page.evaluate("[...document.querySelectorAll('.form .name')].map((it) => it.textContent).join(' | ')")
+    lines = page.evaluate("[...document.querySelectorAll('.form ol')].map((it) => it.children.length).join(' ')")
+    return names, lines, page.printed()[1]
+
+
+def named_forms(*names):
+    return " | ".join(say("blank.name", name=name) for name in names)
+
+
 def leave(page):
-    page.push(say("back"))
-    page.wait_title(say("home.title"))
+    page.push(say("back"), to=say("home.title"))
 
 
 def check_blank(page, see):
-    page.evaluate("window.printed = false; window.print = () => { window.printed = true }; null")
+    watch_printing(page)
     begin(page, "blank")
     page.choose(say("plan.own"))
     page.push(f"{say('plan.fewer')}: {say('plan.needed', group=0)}")
@@ -34,18 +50,12 @@ def check_blank(page, see):
     if page.evaluate("Boolean(window.printed) || document.getElementById('sheet').children.length > 0"):
         raise Failed("forms of a plan that the engine refuses are printed")
     page.choose(say("plan.home"))
-    if say("refused.34", first=0) in page.text():
-        raise Failed("what the engine refused stays beside another plan")
+    page.lacks(say("refused.34", first=0), "what the engine refused stays beside another plan")
     page.choose(say("entry.words", count=33))
     see("blank forms")
-    page.push(say("blank.print"))
-    page.wait(lambda: page.evaluate("window.printed ?? false"), "the printing")
-    names = page.evaluate("[...document.querySelectorAll('.form .name')].map((it) => it.textContent).join(' ')")
-    lines = page.evaluate("[...document.querySelectorAll('.form ol')].map((it) => it.children.length).join(' ')")
-    if page.printed()[1] != 5:
-        raise Failed("the five forms aren't five sheets")
-    if names != " ".join(say("blank.name", name=name) for name in ["0.0", "0.1", "0.2", "1.0", "2.0"]) or lines != "33 33 33 33 33":
-        raise Failed(f"the forms are {names}, with {lines} lines")
+    printed = print_forms(page)
+    if printed != (named_forms("0.0", "0.1", "0.2", "1.0", "2.0"), "33 33 33 33 33", 5):
+        raise Failed(f"names, lines and sheets of the forms are {printed}")
     lacks = [key for key in LINES if page.evaluate("[...document.querySelectorAll('.form')].map((it) => it.textContent).join('|')").count(say(key)) != 5]
     if lacks:
         raise Failed(f"not each form has {lacks}")
@@ -65,23 +75,17 @@ def check_blank(page, see):
 
 def check_offered(page, see):
     """'Make a backup' offers the forms of its papers. Labels of places stand beside the names, and on the forms. Then nothing can be printed."""
-    page.evaluate("window.printed = false; window.print = () => { window.printed = true }; null")
+    watch_printing(page)
     begin(page, "make")
     choose_wallet(page)
     page.tick(say("passphrase.none"))
-    page.push(say("make.create"))
-    page.wait_title(say("make.forms"))
+    page.push(say("make.create"), to=say("make.forms"))
     page.evaluate("document.querySelector('main details').open = true; null")
     page.fill(say("forms.label", name="0.1"), "Home A")
     see("forms for a new backup")
-    page.push(say("blank.print"))
-    page.wait(lambda: page.evaluate("window.printed ?? false"), "the printing")
-    names = page.evaluate("[...document.querySelectorAll('.form .name')].map((it) => it.textContent).join(' | ')")
-    labelled = say("paper.labelled", name="0.1", label="Home A")
-    if names != " | ".join(say("blank.name", name=name) for name in ["0.0", labelled, "0.2"]) or page.printed()[1] != 3:
-        raise Failed(f"the forms of a new backup are {names}")
-    if page.evaluate("[...document.querySelectorAll('.form ol')].map((it) => it.children.length).join(' ')") != "20 20 20":
-        raise Failed("the forms of a new backup have another number of lines than its papers have words")
+    labelled, printed = say("paper.labelled", name="0.1", label="Home A"), print_forms(page)
+    if printed != (named_forms("0.0", labelled, "0.2"), "20 20 20", 3):
+        raise Failed(f"names, lines and sheets of the forms of a new backup are {printed}")
     page.push(say("forms.go"))
     for name in ("0.0", labelled):
         page.wait_title(say("paper.title", name=name))
@@ -90,20 +94,17 @@ def check_offered(page, see):
             raise Failed("forms stay beside the words of a paper")
         see("a paper with a label")
         page.push(say("paper.written"))
-    page.push(say("clear"))
-    page.push(say("clear.yes"))
-    page.wait_title(say("home.title"))
+    clear(page, is_asked=True)
 
 
 def check_single(page, _):
     """The form of a single paper doesn't say that it is one of several."""
-    page.evaluate("window.printed = false; window.print = () => { window.printed = true }; null")
+    watch_printing(page)
     begin(page, "blank")
     page.choose(say("plan.own"))
     for name in [say("plan.drop"), say("plan.drop"), *[f"{say('plan.fewer')}: {say('plan.members', group=0)}"] * 2]:
         page.push(name)
-    page.push(say("blank.print"))
-    page.wait(lambda: page.evaluate("window.printed ?? false"), "the printing")
+    print_forms(page)
     text = page.evaluate("document.getElementById('sheet').textContent")
     if say("blank.heirs.one") not in text or say("blank.heirs") in text:
         raise Failed("the form of a single paper says that it is one of several")

@@ -2,10 +2,10 @@
 import base64
 import contextlib
 import re
-import time
 import zlib
 
 from browsers import Failed
+from tool import waited
 
 # What the page does takes at most this many seconds.
 PATIENCE = 60
@@ -71,14 +71,7 @@ class Page:
 
     def node(self, role, name):
         """Waits until one thing with this role and name is there."""
-        deadline = time.monotonic() + PATIENCE
-        while True:
-            found = self.located(role, name)
-            if found:
-                return found[0]
-            if time.monotonic() > deadline:
-                raise Failed(f"there is no {role} {name!r} on the screen: {self.text()[:600]!r}")
-            time.sleep(0.05)
+        return self.wait(lambda: self.located(role, name), f"the {role} {name!r}")[0]
 
     def go_to(self, role, name):
         """Presses Tab, or Shift and Tab, until this has the focus. Beyond the page's end, Tab would leave the page."""
@@ -93,10 +86,12 @@ class Page:
                 self.press("Tab")
         raise Failed(f"Tab doesn't reach the {role} {name!r}")
 
-    def push(self, name):
-        """Presses a button."""
+    def push(self, name, to=""):
+        """Presses a button, and waits for the screen with the title `to`, if that is given."""
         self.go_to("button", name)
         self.press("Enter")
+        if to:
+            self.wait_title(to)
 
     def double_click(self, name):
         """Presses a button with the mouse, twice. Between the presses, what the first one calls for has time to come."""
@@ -133,6 +128,18 @@ class Page:
         self.go_to(role, name)
         self.type(text)
 
+    def retype(self, name, text, role="textbox"):
+        """Types a text in place of what a field has."""
+        self.go_to(role, name)
+        self.evaluate("document.activeElement.select()")
+        if text:
+            self.type(text)
+        else:
+            self.press("Backspace")
+
+    def is_chosen(self, name):
+        return self.is_true("(it) => it.getAttribute('aria-checked') === 'true'", self.node("radio", name))
+
     # ---- what is to be seen
 
     def text(self):
@@ -142,20 +149,26 @@ class Page:
         return self.evaluate("document.querySelector('h1').textContent")
 
     def wait(self, is_there, what):
-        deadline = time.monotonic() + PATIENCE
-        while not is_there():
-            if time.monotonic() > deadline:
-                raise Failed(f"{what} doesn't come: {self.text()[:900]!r}")
-            time.sleep(0.03)
+        """Waits until a function returns something, and returns that."""
+        found = waited(is_there, PATIENCE)
+        if not found:
+            raise Failed(f"{what} doesn't come: {self.text()[:900]!r}")
+        return found
 
     def wait_title(self, title):
         self.wait(lambda: self.title() == title, f"the screen {title!r}")
 
-    def wait_text(self, text):
-        self.wait(lambda: text in self.text(), f"the text {text!r}")
+    def wait_text(self, *texts):
+        for text in texts:
+            self.wait(lambda: text in self.text(), f"the text {text!r}")
         bare = re.search(r"\(\d\d[:)]", self.text())
         if bare:
             raise Failed(f"a number that owners don't know is shown: {bare[0]}")
+
+    def lacks(self, text, why="this is shown, and shouldn't be"):
+        """Checks that a text isn't on the screen."""
+        if text in self.text():
+            raise Failed(f"{why}: {text!r}")
 
     def picture(self):
         """Returns a picture of the whole page, as PNG."""

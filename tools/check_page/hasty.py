@@ -2,9 +2,10 @@
 import time
 
 from browsers import Failed
+from long_drill import begin_long
 from looks import words_shown
-from refusals import SOUND, changed, paste
-from tasks import answer_passphrase, begin, choose_wallet, create, end
+from samples import SOUND_PAPER, changed
+from tasks import begin, choose_wallet, clear, create, end, take_all
 from texts import say
 
 # Lets what the page starts, or what it asks the worker for, come not at all, or only at `UNDO`, which ends this.
@@ -31,11 +32,6 @@ null
 UNDO = "window.undo(); null"
 
 
-def clear(page):
-    page.push(say("clear"))
-    page.wait_title(say("home.title"))
-
-
 def check_launch(page, see):
     """A task whose worker doesn't start, or whose engine isn't right, says so. One that is cleared while it starts doesn't begin."""
     begin(page, "check")
@@ -45,8 +41,7 @@ def check_launch(page, see):
         ("() => given.call(in_client.Desk).then((it) => { it.begun.fault = 'recover'; return it; })", say("lacks.wrong", fault="recover")),
     ]:
         page.evaluate(LAUNCH % launch)
-        page.push(say("home.check"))
-        page.wait_title(say("lacks.title"))
+        page.push(say("home.check"), to=say("lacks.title"))
         page.wait_text(text)
         see("a task that doesn't start")
         page.evaluate(UNDO)
@@ -79,8 +74,7 @@ def check_double_click(page, _):
 def check_late_words(page):
     """Words that come late aren't shown while the page asks whether to clear them."""
     page.evaluate(ASK % "paper")
-    page.push(say("paper.written"))
-    page.wait_title(say("paper.title", name="0.2"))
+    page.push(say("paper.written"), to=say("paper.title", name="0.2"))
     page.push(say("clear"))
     page.wait_text(say("clear.unfinished"))
     page.evaluate(UNDO)
@@ -92,23 +86,13 @@ def check_late_words(page):
     page.wait(lambda: words_shown(page) == 20, "the words again")
     if page.evaluate("document.activeElement === document.body"):
         raise Failed("the button that shows the words takes the focus with it")
-    page.push(say("clear"))
-    page.push(say("clear.yes"))
-    page.wait_title(say("home.title"))
-
-
-def begin_long(page):
-    """Begins a recovery that takes long."""
-    answer_passphrase(page, "TREZOR", None)
-    page.wait_text(say("time.long", exponent=14, time="@").split("@")[0])
+    clear(page, is_asked=True)
 
 
 def check_stop(page, see):
     """'Stop' works before the page has its copy of what the worker holds, and if no other worker starts."""
     begin(page, "recover")
-    paste(page, changed(SOUND, exponent=14))
-    page.wait_text(say("collect.taken", name="0.0"))
-    page.push(say("collect.end"))
+    take_all(page, [changed(SOUND_PAPER, exponent=14)])
     page.evaluate(ASK % "keep")
     begin_long(page)
     page.push(say("stop"))
@@ -118,8 +102,7 @@ def check_stop(page, see):
     begin_long(page)
     time.sleep(2)
     page.evaluate("{ const given = Worker; window.undo = () => { window.Worker = given; }; window.Worker = function () { throw new Error('none'); }; } null")
-    page.push(say("stop"))
-    page.wait_title(say("fault.title"))
+    page.push(say("stop"), to=say("fault.title"))
     page.wait_text(say("fault.other"))
     page.evaluate(UNDO)
     see("no other worker starts")

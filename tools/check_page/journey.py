@@ -3,8 +3,8 @@ import itertools
 import json
 
 from browsers import Failed
-from refusals import paste
-from tasks import FINGERPRINT, PASSPHRASE, SOUND_PAPER, THREE_GROUPS, answer_passphrase, begin, choose_wallet, create, end, plain, read_paper
+from samples import FINGERPRINT, PASSPHRASE, SOUND_PAPER, THREE_GROUPS
+from tasks import answer_passphrase, begin, choose_wallet, clear, create, drill, end, paste, take_all, write_anew, write_down
 from texts import say
 
 # Notes the title, the step and the buttons to press next of each screen, as it comes and as it changes.
@@ -59,55 +59,48 @@ def check_steps(page, see):
             raise Failed("a step is shown without a task")
 
 
-def type_all(page, lines):
-    for line in lines:
-        share = plain.parse(line.encode())
-        paste(page, line)
-        page.wait_text(say("collect.taken", name=f"{share['group']}.{share['member']}"))
-    page.push(say("collect.end"))
-
-
-def drill(page, title):
+def check_drill(page, title):
     """Drills with what was noted. The result is said once."""
-    page.push(say("drill.start"))
+    drill(page, PASSPHRASE, FINGERPRINT)
     page.wait_title(say(title))
     if page.text().count(FINGERPRINT) != 1:
         raise Failed(f"the result of a drill is said {page.text().count(FINGERPRINT)} times")
+
+
+def write(page):
+    """Writes three papers down, and types them back. Each screen says which of them it has."""
+
+    def look(number):
+        page.wait_title(say("paper.title", name=f"0.{number - 1}"))
+        page.wait_text(say("paper.place", number=number, count=3))
+
+    for number, line in enumerate(write_down(page, look), 1):
+        page.wait_text(say("paper.place", number=number, count=3))
+        paste(page, line)
 
 
 def make(page, see):
     choose_wallet(page)
     page.tick(say("passphrase.none"))
     create(page)
-    papers = []
-    for number in (1, 2, 3):
-        page.wait_title(say("paper.title", name=f"0.{number - 1}"))
-        page.wait_text(say("paper.place", number=number, count=3))
-        papers.append(read_paper(page))
-        page.push(say("paper.written"))
-    page.push(say("continue"))
-    for number, line in enumerate(papers, 1):
-        page.wait_text(say("paper.place", number=number, count=3))
-        paste(page, line)
+    write(page)
     page.wait_title(say("noted.title"))
     noted = page.evaluate("document.querySelector('.fingerprint').textContent")
     page.push(say("noted.done"))
-    answer_passphrase(page, None, noted)
-    page.push(say("drill.start"))
+    drill(page, None, noted)
     page.wait_title(say("make.done"))
     page.wait_text("Note the plan too: any 2 of the 3 papers recover the secret (2of3).")
     see("journey made")
 
 
 def check(page, see):
-    type_all(page, THREE_GROUPS)
-    answer_passphrase(page, PASSPHRASE, FINGERPRINT)
-    drill(page, "check.done.good")
+    take_all(page, THREE_GROUPS)
+    check_drill(page, "check.done.good")
     see("journey checked")
 
 
 def recover(page, _):
-    type_all(page, THREE_GROUPS)
+    take_all(page, THREE_GROUPS)
     answer_passphrase(page, PASSPHRASE, FINGERPRINT)
     page.wait_title(say("recover.done.same"))
 
@@ -115,55 +108,35 @@ def recover(page, _):
 def replace(page, see):
     page.choose(say("replace.destroyed"))
     page.push(say("continue"))
-    type_all(page, [THREE_GROUPS[0], *THREE_GROUPS[2:]])
+    take_all(page, [THREE_GROUPS[0], *THREE_GROUPS[2:]])
     page.choose(say("which.paper", name="0.1"))
-    page.push(say("which.write"))
-    page.wait_title(say("paper.title", name="0.1"))
-    page.push(say("paper.written"))
-    page.wait_title(say("back.title", name="0.1"))
+    page.push(say("which.write"), to=say("paper.title", name="0.1"))
+    page.push(say("paper.written"), to=say("back.title", name="0.1"))
     paste(page, THREE_GROUPS[1])
     page.wait_title(say("replace.which"))
     page.wait_text(say("which.another"))
     see("journey which paper")
-    page.push(say("replace.end"))
-    page.wait_title(say("replace.passphrase"))
-    answer_passphrase(page, PASSPHRASE, FINGERPRINT)
-    drill(page, "check.done.written")
+    page.push(say("replace.end"), to=say("replace.passphrase"))
+    check_drill(page, "check.done.written")
     page.wait_text(say("replace.right.one", names="0.1"))
 
 
 def change(page, see):
-    type_all(page, THREE_GROUPS)
+    take_all(page, THREE_GROUPS)
     page.push(say("continue"))
     page.choose(say("wallet.flag"))
     page.push(say("continue"))
     answer_passphrase(page, PASSPHRASE, FINGERPRINT)
     page.push(say("forms.go"))
-    papers = []
-    for number in (1, 2, 3):
-        page.wait_text(say("paper.place", number=number, count=3))
-        papers.append(read_paper(page))
-        page.push(say("paper.written"))
-    page.push(say("continue"))
-    for number, line in enumerate(papers, 1):
-        page.wait_text(say("paper.place", number=number, count=3))
-        paste(page, line)
-    answer_passphrase(page, PASSPHRASE, FINGERPRINT)
-    drill(page, "change.done")
+    write(page)
+    check_drill(page, "change.done")
     see("journey changed")
 
 
 def repair(page, see):
-    paste(page, SOUND_PAPER.replace("agency", "?"))
-    page.push(say("damaged.write", name="0.0"))
-    page.wait_title(say("paper.title", name="0.0"))
-    page.push(say("paper.written"))
-    page.wait_title(say("back.title", name="0.0"))
-    paste(page, SOUND_PAPER)
-    page.wait_title(say("damaged.check.title"))
+    write_anew(page, SOUND_PAPER)
     page.push(say("collect.end"))
-    answer_passphrase(page, PASSPHRASE, None)
-    page.push(say("drill.start"))
+    drill(page, PASSPHRASE, None)
     page.wait_title(say("check.done.same"))
     see("journey repaired")
 
@@ -224,16 +197,14 @@ def check_plans(page, see):
         page.push(button)
         check_picture(page, button, plan)
     see("what a plan of one's own survives")
-    page.push(say("clear"))
-    page.wait_title(say("home.title"))
+    clear(page)
     begin(page, "check")
     for line, cards in [(THREE_GROUPS[0], "0.0 missing"), (THREE_GROUPS[1], "0.0 0.1 enough"), (THREE_GROUPS[3], "0.0 0.1 enough 1.0 enough")]:
         paste(page, line)
         told = "[...document.querySelectorAll('.picture .card, .picture .enough')].map((it) => it.textContent).join(' ')"
         page.wait(lambda: page.evaluate(told) == cards, f"the cards {cards!r}, and not {page.evaluate(told)!r},")
     see("cards of papers")
-    page.push(say("clear"))
-    page.wait_title(say("home.title"))
+    clear(page)
 
 
 CHECKS = [check_steps, check_plans]

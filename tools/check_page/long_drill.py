@@ -3,31 +3,20 @@ import math
 
 from browsers import Failed
 from choices import check_green
-from refusals import SOUND, changed, paste
-from tasks import answer_passphrase, begin, choose_wallet, end, fingerprint_of, plain
+from samples import SOUND_PAPER, changed, fingerprint_of, papers_of
+from tasks import answer_passphrase, begin, choose_wallet, clear, end, take_all
 from texts import say
 
 # A plan with more quorums than a drill tries: three groups of eight papers, four of each needed.
 GROUPS, MEMBERS, NEEDED = 3, 8, 4
 FIRST = 1000
-SECRET = bytes(range(16, 32))
-
-
-def big_backup():
-    plan = plain.parse_plan(f"{GROUPS}/" + ",".join([f"{NEEDED}of{MEMBERS}"] * GROUPS))
-    random = bytes(at * 7 % 256 for at in range(plain.random_needed(plan, len(SECRET))))
-    return [plain.mnemonic(share) for share in plain.create(plan, SECRET, b"", 0, True, random)]
 
 
 def check_big(page, see):
     """The first quorums are tried, and one with each paper. The page doesn't say that all were."""
-    lines = big_backup()
+    lines = papers_of(f"{GROUPS}/" + ",".join([f"{NEEDED}of{MEMBERS}"] * GROUPS))
     begin(page, "check")
-    for line in lines:
-        share = plain.parse(line.encode())
-        paste(page, line)
-        page.wait_text(say("collect.taken", name=f"{share['group']}.{share['member']}"))
-    page.push(say("collect.end"))
+    take_all(page, lines)
     fingerprint = fingerprint_of([line for group in range(GROUPS) for line in lines[group * MEMBERS : group * MEMBERS + NEEDED]], "")
     answer_passphrase(page, None, fingerprint)
     total = f"{math.comb(MEMBERS, NEEDED) ** GROUPS:,}"
@@ -40,8 +29,7 @@ def check_big(page, see):
     page.wait_text(verdict)
     # A count is no comparison.
     check_green(page, [verdict])
-    if "All quorums" in page.text():
-        raise Failed("the page says that all quorums were tried")
+    page.lacks("All quorums", "the page says that all quorums were tried")
     see("drill of too many quorums")
     end(page)
 
@@ -62,37 +50,34 @@ def check_bar(page):
     page.wait(lambda: page.evaluate(at) > first, "a bar that moves")
 
 
+def begin_long(page):
+    """Begins a recovery that takes long."""
+    answer_passphrase(page, "TREZOR", None)
+    page.wait_text(say("time.long", exponent=14, time="@").split("@")[0])
+
+
 def check_stop(page, see):
     """A recovery with a high exponent says how long it takes, and stops. The papers stay."""
     begin(page, "recover")
-    paste(page, changed(SOUND, exponent=14))
-    page.wait_text(say("collect.taken", name="0.0"))
-    page.push(say("collect.end"))
-    answer_passphrase(page, "TREZOR", None)
-    page.wait_text(say("time.long", exponent=14, time="@").split("@")[0])
+    take_all(page, [changed(SOUND_PAPER, exponent=14)])
+    begin_long(page)
     check_bar(page)
     see("a long recovery")
     page.push(say("stop"))
     page.wait_text(say("recover.stopped"))
     page.push(say("again"))
-    answer_passphrase(page, "TREZOR", None)
-    page.wait_text(say("time.long", exponent=14, time="@").split("@")[0])
-    page.push(say("clear"))
-    page.wait_title(say("home.title"))
+    begin_long(page)
+    clear(page)
 
 
 def check_stop_drill(page, see):
     """A drill that is stopped before its first quorum says only that, and no verdict on the papers."""
     begin(page, "check")
-    paste(page, changed(SOUND, exponent=14))
-    page.wait_text(say("collect.taken", name="0.0"))
-    page.push(say("collect.end"))
-    answer_passphrase(page, "TREZOR", None)
-    page.wait_text(say("time.long", exponent=14, time="@").split("@")[0])
+    take_all(page, [changed(SOUND_PAPER, exponent=14)])
+    begin_long(page)
     page.push(say("drill.start"))
     check_bar(page)
-    page.push(say("stop"))
-    page.wait_title(say("check.done.stopped"))
+    page.push(say("stop"), to=say("check.done.stopped"))
     verdict = page.evaluate("[...document.querySelectorAll('.verdict .bad, .verdict .good, .verdict .note')].map((it) => it.innerText).join(' ')")
     if verdict.strip() != say("drill.tried", tried=0, total=1) or page.evaluate("document.querySelectorAll('.bad').length"):
         raise Failed(f"a drill that was stopped says {verdict!r}, or says that something is wrong")
@@ -107,17 +92,13 @@ def check_stop_make(page, _):
     choose_wallet(page)
     page.evaluate("document.querySelector('details').open = true; null")
     page.tick(say("passphrase.none"))
-    page.go_to("spinbutton", say("more.exponent"))
-    page.evaluate("document.activeElement.select()")
-    page.type("14")
-    page.push(say("make.create"))
-    page.wait_title(say("make.work"))
+    page.retype(say("more.exponent"), "14", "spinbutton")
+    page.push(say("make.create"), to=say("make.work"))
     page.wait_text(say("time.about", time="@").split("@")[0])
     check_bar(page)
     page.push(say("stop"))
     page.wait_text(say("make.stopped"))
-    page.push(say("clear"))
-    page.wait_title(say("home.title"))
+    clear(page)
 
 
 CHECKS = [check_big, check_most, check_stop, check_stop_drill, check_stop_make]

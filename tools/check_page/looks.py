@@ -1,7 +1,10 @@
 """How the page looks: nothing wider than a narrow screen, contrast of each text, and what a hidden or a left page shows."""
+import functools
+
 from browsers import Failed, browser
 from hands import Page
-from tasks import SOUND_PAPER, begin, choose_wallet, create, found_words, type_damaged, type_paper
+from samples import SOUND_PAPER
+from tasks import begin, choose_wallet, clear, create, found_words, type_damaged, type_paper
 from texts import say
 
 # The contrast that WCAG 2.2 asks for at level AA: of a text, and of a large one.
@@ -44,24 +47,22 @@ def check_screen(page, what, see):
     page.size(1200, 900)
 
 
-def check(name, url, see, opened=Page):
+def check(name, url, see_page):
     for is_dark in (False, True):
         mode = "dark" if is_dark else "light"
         with browser(name, is_dark) as it:
-            page = opened(it, url)
+            page = Page(it, url)
+            see = functools.partial(see_page, page)
             page.wait_title(say("home.title"))
             if page.evaluate("matchMedia('(prefers-color-scheme: dark)').matches") != is_dark:
                 raise Failed(f"{name} isn't in its {mode} mode")
             check_screen(page, f"{mode} first screen", see)
             unprinted = page.printed()
-            page.push(say("home.check"))
-            page.wait_title(say("prepare.title"))
+            page.push(say("home.check"), to=say("prepare.title"))
             check_screen(page, f"{mode} before you begin", see)
-            page.push(say("prepare.anyway"))
-            page.wait_title(say("prepare.sure.title"))
+            page.push(say("prepare.anyway"), to=say("prepare.sure.title"))
             check_screen(page, f"{mode} are you sure", see)
-            page.push(say("prepare.yes"))
-            page.wait_title(say("check.title"))
+            page.push(say("prepare.yes"), to=say("check.title"))
             type_paper(page, SOUND_PAPER)
             page.wait_text(say("collect.taken", name="0.0"))
             page.fill(say("entry.word", number=1), "acdemic ")
@@ -70,11 +71,9 @@ def check(name, url, see, opened=Page):
             page.push(say("collect.end"))
             page.wait_text(say("collect.unread"))
             check_screen(page, f"{mode} words that were not read", see)
-            page.push(say("collect.unread.drop"))
-            page.wait_title(say("check.passphrase"))
+            page.push(say("collect.unread.drop"), to=say("check.passphrase"))
             check_screen(page, f"{mode} passphrase", see)
-            page.push(say("clear"))
-            page.wait_title(say("home.title"))
+            clear(page)
             begin(page, "damaged")
             type_damaged(page, "? ? ? " + " ".join(SOUND_PAPER.split()[3:]))
             page.wait(lambda: found_words(page).count("\n") == 1, "the papers that fit")
@@ -87,8 +86,7 @@ def check(name, url, see, opened=Page):
                 page.push(say(f"plan.{change}"))
             check_screen(page, f"{mode} plan with a danger", see)
             page.choose(say("plan.two"))
-            page.push(say("continue"))
-            page.wait_title(say("make.wallet"))
+            page.push(say("continue"), to=say("make.wallet"))
             check_screen(page, f"{mode} wallet", see)
             page.push(say("back"))
             choose_wallet(page)
@@ -131,8 +129,7 @@ def check_left(page):
     begin(page, "check")
     page.push(say("collect.end"))
     page.wait_text(say("collect.none"))
-    page.push(say("clear"))
-    page.wait_title(say("home.title"))
+    clear(page)
 
 
 # Makes the page believe that its tab is hidden, or that it isn't.
@@ -147,8 +144,7 @@ def check_hidden_words(page):
     page.evaluate(HIDE % "false")
     page.push(say("paper.show"))
     page.wait(lambda: found_words(page).strip(), "the found words again")
-    page.push(say("clear"))
-    page.wait_title(say("home.title"))
+    clear(page)
     if page.evaluate("document.querySelectorAll('.fit, main input').length"):
         raise Failed("a cleared page shows words that were found")
 
@@ -180,8 +176,6 @@ def check_unfinished(page, see):
         raise Failed("the answer that goes on with the papers leaves them")
     page.push(say("paper.show"))
     page.wait(lambda: words_shown(page) == 20, "the words again")
-    page.push(say("clear"))
-    page.push(say("clear.yes"))
-    page.wait_title(say("home.title"))
+    clear(page, is_asked=True)
     if words_shown(page):
         raise Failed("a cleared page shows a paper")

@@ -15,8 +15,10 @@ import zlib
 
 from browsers import Failed, browser
 from hands import Page
-from tasks import SOUND_PAPER, begin, choose_wallet, type_paper
+from samples import SOUND_PAPER
+from tasks import begin, choose_wallet, clear, type_paper
 from texts import say
+from tool import waited
 
 CONTROL = "<!doctype html><title>control</title><label>Plain <input type=text name=plain></label>"
 # Chromium looks at the fields of a tab every 5 seconds, or every 20 if another tab is in front.
@@ -120,13 +122,11 @@ def typed_everywhere(page, source):
     # The field takes eight letters, and the search looks for halves of a marker too.
     page.fill(say("noted.label"), markers["noted fingerprint"])
     time.sleep(LOOKING)
-    page.push(say("clear"))
-    page.wait_title(say("home.title"))
+    clear(page)
     begin(page, "damaged")
     page.fill(say("entry.word", number=1), f"{markers['word of a damaged paper']}?")
     time.sleep(LOOKING)
-    page.push(say("clear"))
-    page.wait_title(say("home.title"))
+    clear(page)
     begin(page, "make")
     choose_wallet(page)
     page.choose(say("secret.own"))
@@ -151,9 +151,7 @@ def check_browser(name, url, control_url, is_quit, source):
         page.evaluate("document.querySelector('input').focus()")
         page.type(plain)
         page.press("Tab")
-        deadline = time.monotonic() + WRITING
-        while time.monotonic() < deadline and not search(it.home, {"the control": plain}):
-            time.sleep(1)
+        waited(lambda: search(it.home, {"the control": plain}), WRITING, 1)
         time.sleep(LOOKING)
         found = search(it.home, markers | {"the control": plain})
         if is_quit:

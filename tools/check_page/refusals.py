@@ -2,20 +2,14 @@
 import json
 
 from browsers import Failed
-from tasks import FINGERPRINT, PASSPHRASE, SECRET, THREE_GROUPS, answer_passphrase, begin, choose_wallet, end, example, plain, type_digits, type_paper
+from samples import BAD_CHECKSUM, BAD_PADDING, BIP39, EXCHANGED, FINGERPRINT, PASSPHRASE, SECRET, SOUND_PAPER, THREE_GROUPS
+from samples import changed, opening, refused_beside, with_words
+from tasks import answer_passphrase, begin, begin_replace, choose_wallet, clear, drill, end, paste, take_all, type_digits, type_paper
 from texts import counted, say
 
-SOUND = example("one-of-one.txt")[0]
-# Published vectors of SLIP-0039. In the first, word 20 is wrong.
-BAD_CHECKSUM = SOUND.replace("keyboard", "kidney")
-EXCHANGED = SOUND.replace("length solution", "solution length")
-BAD_PADDING = "duckling enlarge academic academic email result length solution fridge kidney coal piece deal husband erode duke ajar music cargo fitness"
-BIP39 = "legal winner thank year wave sausage worth useful legal winner thank yellow"
+import plain
 
-
-def changed(line, **fields):
-    """Returns the mnemonic of a share with other fields."""
-    return plain.mnemonic(plain.parse(line.encode()) | fields)
+WRONG_WORD = with_words(SOUND_PAPER, {7: "lend"})
 
 
 def said(number, **values):
@@ -25,21 +19,13 @@ def said(number, **values):
 
 def of_one_paper():
     """Returns papers that are refused by themselves, or beside the first paper of the example."""
-    first = THREE_GROUPS[0]
-    value = plain.parse(first.encode())["value"]
     return [
-        ("one wrong word", BAD_CHECKSUM, said(18, first=20)),
-        ("another wrong word", SOUND.replace("length", "lend"), said(18, first=7)),
-        ("two words that changed places", EXCHANGED, said(13)),
-        ("bad padding", BAD_PADDING, said(14)),
-        ("too many groups needed", changed(first, group_threshold=16), said(15)),
-        ("another flag", changed(first, extendable=1), said(22)),
-        ("another exponent", changed(first, exponent=3), said(23)),
-        ("another number of needed groups", changed(first, group_threshold=1), said(24)),
-        ("another number of groups", changed(first, group_count=4), said(25)),
-        ("another length", changed(first, value=value + value), said(26)),
-        ("another number of needed members", changed(first, member=5, member_threshold=3), said(27, first=0)),
-        ("another value", changed(first, value=value[::-1]), said(28, first=0, second=0)),
+        (BAD_CHECKSUM, said(18, first=20)),
+        (WRONG_WORD, said(18, first=7)),
+        (EXCHANGED, said(13)),
+        (BAD_PADDING, said(14)),
+        (changed(THREE_GROUPS[0], group_threshold=16), said(15)),
+        *((line, said(number, **values)) for line, number, values in refused_beside(THREE_GROUPS[0])),
     ]
 
 
@@ -48,11 +34,11 @@ def check_papers(page, see):
     begin(page, "check")
     type_paper(page, THREE_GROUPS[0], is_by_four=True)
     page.wait_text(say("collect.taken", name="0.0"))
-    for what, line, text in of_one_paper():
+    for line, text in of_one_paper():
         type_paper(page, line, is_by_four=True)
         page.wait_text(text)
-        if what == "another wrong word":
-            see(what)
+        if line == WRONG_WORD:
+            see("another wrong word")
             check_wrong_word(page)
         else:
             page.push(say("entry.empty"))
@@ -62,15 +48,12 @@ def check_papers(page, see):
     page.wait_text(say("check.sound", papers=counted(1, "paper"), names="0.0"))
     page.wait_text(say("status.not_enough", needed=counted(2, "whole"), here=0))
     see("too few papers")
-    page.push(say("collect.more"))
-    page.wait_title(say("check.title"))
+    page.push(say("collect.more"), to=say("check.title"))
     page.wait_text(say("collect.row", name="0.0", words=20))
     page.push(say("collect.drop", name="0.0"))
     page.wait_text(say("collect.dropped", name="0.0"))
-    if say("collect.taken", name="0.0") in page.text():
-        raise Failed("a paper that was taken out is still said to be sound")
-    page.push(say("clear"))
-    page.wait_title(say("home.title"))
+    page.lacks(say("collect.taken", name="0.0"), "a paper that was taken out is still said to be sound")
+    clear(page)
 
 
 def check_wrong_word(page):
@@ -78,18 +61,15 @@ def check_wrong_word(page):
     if not page.has_focus(page.node("textbox", say("entry.word", number=7))):
         raise Failed("the focus doesn't go to the wrong word")
     page.type("leng")
-    begin_of = " ".join(SOUND.split()[:2])
-    page.wait_text(say("collect.taken.apart", name="0.0", begin=begin_of))
-    page.push(say("collect.drop.of", name="0.0", begin=begin_of))
+    page.wait_text(say("collect.taken.apart", name="0.0", begin=opening(SOUND_PAPER)))
+    page.push(say("collect.drop.of", name="0.0", begin=opening(SOUND_PAPER)))
     page.wait_text(say("collect.dropped", name="0.0"))
 
 
 def check_words(page, see):
     """A word that isn't in the list is marked, and nothing is put in its place. A paper of 21 words, and words of BIP-39."""
     begin(page, "check")
-    words = SOUND.split()
-    words[2] = "acdemic"
-    type_paper(page, " ".join(words))
+    type_paper(page, with_words(SOUND_PAPER, {3: "acdemic"}))
     page.wait_text(say("entry.unknown", number=3))
     page.wait(lambda: page.evaluate("document.getElementById('live').textContent") != "", "what a screen reader is told of an unknown word")
     see("an unknown word")
@@ -101,11 +81,8 @@ def check_words(page, see):
     page.wait_text(say("collect.taken", name="0.0"))
     page.push(say("collect.drop", name="0.0"))
     page.wait_text(say("collect.dropped", name="0.0"))
-    page.go_to("spinbutton", say("entry.count"))
-    page.evaluate("document.activeElement.select()")
-    page.type("21")
-    page.go_to("textbox", say("entry.word", number=1))
-    page.type(" ".join(words[:2] + ["academic"] + words[3:] + ["acid"]) + " ")
+    page.retype(say("entry.count"), "21", "spinbutton")
+    page.fill(say("entry.word", number=1), f"{SOUND_PAPER} acid ")
     page.wait_text(said(12, first=21))
     page.push(say("entry.empty"))
     page.push(say("entry.words", count=20))
@@ -116,7 +93,7 @@ def check_words(page, see):
     paste(page, BIP39)
     page.wait_text(say("entry.bip39", count=12))
     page.push(say("entry.empty"))
-    paste(page, " ".join(["duckl1ng", *SOUND.split()[1:12]]).replace("1", "x"))
+    paste(page, " ".join(["duckl1ng", *SOUND_PAPER.split()[1:12]]).replace("1", "x"))
     page.wait_text(say("entry.missing", number=13, count=12, fields=20))
     page.push(say("entry.empty"))
     paste(page, BAD_CHECKSUM)
@@ -127,18 +104,10 @@ def check_words(page, see):
     page.wait_text(say("collect.dropped", name="0.0"))
     # As a blank form prints it.
     heading = f"{say('blank.heading')} {say('blank.name', name='0.0')}\n"
-    numbered = "".join(f"{number}. {word.upper()},\n" for number, word in enumerate(SOUND.split(), 1))
+    numbered = "".join(f"{number}. {word.upper()},\n" for number, word in enumerate(SOUND_PAPER.split(), 1))
     paste(page, heading + numbered)
     page.wait_text(say("collect.taken", name="0.0"))
-    page.push(say("clear"))
-    page.wait_title(say("home.title"))
-
-
-def paste(page, text):
-    """Pastes a text into the first field. The clipboard itself isn't used, since other programs of this machine share it."""
-    page.go_to("textbox", say("entry.word", number=1))
-    script = "{ const event = new Event('paste', { bubbles: true, cancelable: true }); event.clipboardData = { getData: () => " + repr(text) + " };"
-    page.evaluate(script + " document.activeElement.dispatchEvent(event); } null")
+    clear(page)
 
 
 def check_values(page, see):
@@ -171,10 +140,8 @@ def check_values(page, see):
                 see("a passphrase that wallets don't take")
         page.push(say("make.create"))
         page.wait_text(text)
-    if said(41, first=2) in page.text():
-        raise Failed("what was refused before stays beside what is missing now")
-    page.push(say("clear"))
-    page.wait_title(say("home.title"))
+    page.lacks(said(41, first=2), "what was refused before stays beside what is missing now")
+    clear(page)
 
 
 def check_digits(page, see):
@@ -189,7 +156,7 @@ def check_digits(page, see):
         (SECRET, changed_digits, FINGERPRINT, say("secret.differ")),
         (SECRET, SECRET, "", say("noted.missing")),
     ]:
-        if not page.is_true("(it) => it.getAttribute('aria-checked') === 'true'", page.node("radio", say("secret.own"))):
+        if not page.is_chosen(say("secret.own")):
             raise Failed("after a refusal, another secret is chosen")
         # What was typed before stays in its fields.
         page.choose(say("secret.own"))
@@ -216,34 +183,27 @@ def check_mixed(page, see):
         type_paper(page, line, is_by_four=True)
     page.wait_text(say("collect.taken", name="2.0"))
     page.push(say("collect.end"))
-    answer_passphrase(page, PASSPHRASE, "df41d8fe")
-    page.push(say("drill.start"))
+    drill(page, PASSPHRASE, "df41d8fe")
     page.wait_text(say("verdict.some", quorums=counted(7, "quorum"), wrong=4))
     page.wait_text(say("verdict.suspects.one", names="0.2"))
     page.wait_text(say("drill.mismatch", group=0))
     see("drill with a forged paper")
     end(page)
-    begin(page, "replace")
-    page.choose(say("replace.destroyed"))
-    page.push(say("continue"))
+    begin_replace(page)
     type_paper(page, THREE_GROUPS[0], is_by_four=True)
     page.wait_text(say("collect.taken", name="0.0"))
     page.push(say("collect.end"))
     page.wait_text(say("replace.none_yet"))
     see("too few papers to write a missing one")
     page.push(say("collect.more"))
-    for line in THREE_GROUPS[1:3]:
-        paste(page, line)
-        page.wait_text(say("collect.taken", name=f"0.{plain.parse(line.encode())['member']}"))
-    page.push(say("collect.end"))
+    take_all(page, THREE_GROUPS[1:3])
     one, two, whole = counted(1, "paper"), counted(2, "paper"), counted(2, "whole")
     for group, needed, text in [(1, "1", said(66, group=1, more=one, whole=whole, groups=1)), (2, "2", said("66.fewer", group=2, more=two, fewer=one, whole=whole, groups=1))]:
         page.choose(say("which.paper", name=f"{group}.0"))
         page.fill(say("which.needed"), needed, "spinbutton")
         page.push(say("which.write"))
         page.wait_text(f"{say('which.untold', name=f'{group}.0')} {text}")
-    if "other groups" in page.text():
-        raise Failed("the page tells an owner of 'other groups' in the engine's words")
+    page.lacks("other groups", "the page tells an owner of 'other groups' in the engine's words")
     see("papers that the rest don't determine")
     page.push(say("replace.end"))
     page.wait_text(say("replace.too_few"))
@@ -257,8 +217,7 @@ def check_prepare(page, _):
     """The question before the first task: a machine that seems online is asked twice, and one that seems offline once. A change shows."""
     for is_online in (True, False):
         page.evaluate(ONLINE % str(is_online).lower() + " null")
-        page.push(say("home.check"))
-        page.wait_title(say("prepare.title"))
+        page.push(say("home.check"), to=say("prepare.title"))
         page.wait_text(say("prepare.online" if is_online else "prepare.offline"))
         if is_online:
             page.evaluate(ONLINE % "false" + " window.dispatchEvent(new Event('offline')); null")
@@ -268,11 +227,9 @@ def check_prepare(page, _):
         page.push(say("prepare.ready"))
         if is_online:
             page.wait_text(say("prepare.still_online"))
-            page.push(say("prepare.no"))
-            page.wait_title(say("home.title"))
+            page.push(say("prepare.no"), to=say("home.title"))
     page.wait_title(say("check.title"))
-    page.push(say("clear"))
-    page.wait_title(say("home.title"))
+    clear(page)
 
 
 def forged_backups():
@@ -290,10 +247,7 @@ def check_noted(page, see):
     page.tick(say("noted.none"))
     for typed, text in [(None, say("noted.both")), ("df41d8fg", say("noted.wrong")), ("", say("noted.missing"))]:
         if typed is not None:
-            page.go_to("textbox", say("noted.label"))
-            page.evaluate("document.activeElement.select()")
-            page.press("Backspace")
-            page.type(typed)
+            page.retype(say("noted.label"), typed)
         page.push(say("continue"))
         page.wait_text(text)
     see("a fingerprint is asked for")
@@ -306,11 +260,7 @@ def check_recovery(page, see):
     for task in ("recover", "check"):
         for lines, text in forged_backups():
             begin(page, task)
-            for line in lines:
-                paste(page, line)
-                share = plain.parse(line.encode())
-                page.wait_text(say("collect.taken", name=f"{share['group']}.{share['member']}"))
-            page.push(say("collect.end"))
+            take_all(page, lines)
             answer_passphrase(page, "p\u00e4ssword", FINGERPRINT)
             page.wait_text(said(41, first=2))
             page.wait_text(say("passphrase.unfit"))
@@ -320,12 +270,9 @@ def check_recovery(page, see):
                 page.wait_text(say("drill.mismatch", group=0) if "group 0" in text else say("drill.mismatch_groups"))
                 page.wait_title(say("check.done.some"))
                 page.wait_text(say("verdict.nothing", quorums=counted(1, "quorum")))
-                page.push(say("collect.back"))
-                page.wait_title(say("check.title"))
-                page.push(say("collect.end"))
-                page.wait_title(say("check.passphrase"))
-                page.push(say("clear"))
-                page.wait_title(say("home.title"))
+                page.push(say("collect.back"), to=say("check.title"))
+                page.push(say("collect.end"), to=say("check.passphrase"))
+                clear(page)
                 continue
             else:
                 page.wait_title(say("recover.failed"))
@@ -340,8 +287,7 @@ def check_long_line(page, _):
     begin(page, "check")
     paste(page, " ".join(["academic"] * 128))
     page.wait_text(said(12, first=128))
-    page.push(say("clear"))
-    page.wait_title(say("home.title"))
+    clear(page)
 
 
 # Asks the engine through the page's own worker, and returns what the page says of each answer.

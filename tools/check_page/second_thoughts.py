@@ -1,16 +1,11 @@
 """What an owner takes back: a paper that was taken out, and fields that were emptied. Words that are offered, and how numbers are written."""
 from browsers import Failed
-from refusals import paste
-from tasks import SOUND_PAPER, THREE_GROUPS, begin
+from samples import SOUND_PAPER, THREE_GROUPS
+from tasks import begin, clear, paste, take
 from texts import counted, say
 
 WORDS = "[...document.querySelectorAll('.word:not([hidden]) input')].map((it) => it.value).join(' ')"
 SHOWN = "[...document.querySelectorAll('.ahead button')].map((it) => it.textContent).join(' ')"
-
-
-def clear(page):
-    page.push(say("clear"))
-    page.wait_title(say("home.title"))
 
 
 def check_put_back(page, see):
@@ -27,17 +22,13 @@ def check_put_back(page, see):
         page.push(say("collect.undo", name=name))
         page.wait_text(say("collect.undone", name=name))
         page.wait_text(say("status.not_enough", needed=counted(2, "whole"), here=1))
-        if say("collect.undo", name=name) in page.text():
-            raise Failed("a paper that is back can be put back again")
+        page.lacks(say("collect.undo", name=name), "a paper that is back can be put back again")
     for name in ("0.1", "0.0"):
         page.push(say("collect.drop", name=name))
         page.wait_text(say("collect.dropped", name=name))
-    if say("collect.undo", name="0.1") in page.text():
-        raise Failed("the paper that was taken out before the last one can be put back")
-    paste(page, THREE_GROUPS[3])
-    page.wait_text(say("collect.taken", name="1.0"))
-    if say("collect.undo", name="0.0") in page.text():
-        raise Failed("a paper can be put back beside one that was typed later")
+    page.lacks(say("collect.undo", name="0.1"), "the paper that was taken out before the last one can be put back")
+    take(page, [THREE_GROUPS[3]])
+    page.lacks(say("collect.undo", name="0.0"), "a paper can be put back beside one that was typed later")
     clear(page)
 
 
@@ -46,8 +37,7 @@ def check_emptied(page, see):
     typed = " ".join(SOUND_PAPER.split()[:7])
     for task in ("check", "damaged"):
         begin(page, task)
-        if say("entry.undo") in page.text():
-            raise Failed("words can be brought back before any were emptied")
+        page.lacks(say("entry.undo"), "words can be brought back before any were emptied")
         page.type(typed + " ")
         page.wait(lambda: page.evaluate(WORDS).strip() == typed, "the words that were typed")
         page.push(say("entry.empty"))
@@ -56,8 +46,7 @@ def check_emptied(page, see):
         page.push(say("entry.undo"))
         page.wait(lambda: page.evaluate(WORDS).strip() == typed, "the words that were emptied")
         page.push(say("entry.empty"))
-        page.go_to("textbox", say("entry.word", number=1))
-        page.type("acid ")
+        page.fill(say("entry.word", number=1), "acid ")
         if say("entry.undo") in page.text() or page.evaluate(WORDS).strip() != "acid":
             raise Failed("words that were emptied can be brought back over others")
         clear(page)
@@ -66,8 +55,7 @@ def check_emptied(page, see):
 def check_offered(page, see):
     """While a word is typed, the words that begin so are offered, if they are few. A word that is none is told with those that are near."""
     begin(page, "check")
-    page.go_to("textbox", say("entry.word", number=1))
-    page.type("su")
+    page.fill(say("entry.word", number=1), "su")
     if page.evaluate(SHOWN):
         raise Failed(f"too many words are offered: {page.evaluate(SHOWN)}")
     page.type("b")

@@ -1,17 +1,13 @@
 """Reads the sources of the page: what must not stand in them, since no policy of a browser stops it, and the table of texts."""
 import json
-import pathlib
 import re
 import shutil
 import subprocess
-import sys
 import tempfile
 
 from browsers import Failed
-
-ROOT = pathlib.Path(__file__).resolve().parent.parent.parent
-sys.path.append(str(ROOT / "tools"))
-from left_out import left_out  # noqa: E402
+from left_out import left_out
+from texts import read
 
 # What lets something out of the page, or keeps it in the browser. A policy doesn't stop all of these.
 FORBIDDEN = [
@@ -67,8 +63,7 @@ NUMBER = re.compile(r"\b(two|three|four|five|six|seven|eight|nine|ten|twelve|twe
 
 
 def check_texts(page):
-    source = (page / "texts.js").read_text()
-    table = json.loads(source[source.index("{\n", source.index("export const TEXTS")) : source.index("\n};") + 2])
+    table = read(page)
     wanted = {key for path in page.glob("*.js") for key in KEY.findall(path.read_text())}
     missing = sorted(wanted - set(table))
     if missing:
@@ -79,7 +74,7 @@ def check_texts(page):
     spelt = [key for key, text in table.items() if NUMBER.search(text)]
     if spelt:
         raise Failed(f"these texts have a number in letters, and others have digits: {spelt}")
-    doubled = re.findall(r'^  "([^"]+)":', source, re.MULTILINE)
+    doubled = re.findall(r'^  "([^"]+)":', (page / "texts.js").read_text(), re.MULTILINE)
     if len(doubled) != len(set(doubled)):
         raise Failed("the table of texts has a key twice")
 

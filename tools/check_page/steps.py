@@ -1,8 +1,10 @@
 """The ways back, what Enter does in a field that isn't a word's, and the questions for the plan of papers."""
 from browsers import Failed
-from refusals import paste
-from tasks import FINGERPRINT, PASSPHRASE, SOUND_PAPER, THREE_GROUPS, begin, choose_wallet, create, example, plain, read_paper
+from samples import FINGERPRINT, PASSPHRASE, SOUND_PAPER, THREE_GROUPS, TWO, name_of
+from tasks import begin, begin_replace, choose_wallet, clear, create, paste, read_paper, take, take_all
 from texts import counted, say
+
+import plain
 
 
 # Returns where the way back stands.
@@ -30,9 +32,7 @@ def check_first_steps(page, _):
         go_back(page, say("home.title"))
     begin(page, "blank")
     go_back(page, say("home.title"))
-    begin(page, "replace")
-    page.choose(say("replace.other"))
-    page.push(say("continue"))
+    begin_replace(page, "other")
     page.wait_title(say("replace.new.title"))
     go_back(page, say("replace.title"))
     page.choose(say("replace.destroyed"))
@@ -51,7 +51,7 @@ def check_make(page, _):
     go_back(page, say("make.wallet"))
     go_back(page, say("make.plan"))
     page.wait_text(say("plan.sentence.any", needed=3, members=5))
-    if not page.is_true("(it) => it.getAttribute('aria-checked') === 'true'", page.node("radio", say("plan.three"))):
+    if not page.is_chosen(say("plan.three")):
         raise Failed("on the way back, another plan is chosen")
     page.choose(say("plan.home"))
     page.wait_text(say("plan.found.group.many", groups="1, 2"))
@@ -65,12 +65,10 @@ def check_make(page, _):
 def check_passphrase(page, _):
     """From the questions before a drill, the owner can go back to the papers, which stay. Enter goes from field to field, and on."""
     begin(page, "check")
-    paste(page, SOUND_PAPER)
-    page.wait_text(say("collect.taken", name="0.0"))
+    take(page, [SOUND_PAPER])
     if say("back") in page.text().splitlines():
         raise Failed("one press leaves the papers that were read")
-    page.push(say("collect.end"))
-    page.wait_title(say("check.passphrase"))
+    page.push(say("collect.end"), to=say("check.passphrase"))
     go_back(page, say("check.title"))
     page.wait_text(say("collect.row", name="0.0", words=20))
     page.push(say("collect.end"))
@@ -88,84 +86,59 @@ def check_passphrase(page, _):
             go_back(page, say("check.passphrase"))
     page.push(say("drill.start"))
     page.wait_text(say("verdict.all.noted", quorums=counted(1, "quorum"), fingerprint=FINGERPRINT))
-    page.push(say("clear"))
-    page.wait_title(say("home.title"))
+    clear(page)
 
 
 def check_which(page, see):
     """The page asks which paper is missing. A name that is here, or that no paper has, is asked for again, with the reason."""
-    begin(page, "replace")
-    page.choose(say("replace.destroyed"))
-    page.push(say("continue"))
-    for line in [THREE_GROUPS[0], THREE_GROUPS[2], THREE_GROUPS[3]]:
-        paste(page, line)
-        share = plain.parse(line.encode())
-        page.wait_text(say("collect.taken", name=f"{share['group']}.{share['member']}"))
-    page.push(say("collect.end"))
+    begin_replace(page)
+    here = [THREE_GROUPS[0], THREE_GROUPS[2], THREE_GROUPS[3]]
+    take_all(page, here)
     page.wait_title(say("replace.which"))
     if page.evaluate("Boolean(document.querySelector('#main .picture').compareDocumentPosition(document.querySelector('#main .buttons')) & 4)"):
         raise Failed("the buttons don't stand below the choices, but below the picture of the papers")
     offered = page.evaluate("[...document.querySelectorAll('[role=radio] strong')].map((it) => it.textContent).join(', ')")
-    names = {f"{it['group']}.{it['member']}" for it in (plain.parse(line.encode()) for line in (THREE_GROUPS[0], THREE_GROUPS[2], THREE_GROUPS[3]))}
+    names = set(map(name_of, here))
     if names != {"0.0", "0.2", "1.0"} or offered != ", ".join([*(say("which.paper", name=name) for name in ("0.1", "0.3", "2.0")), say("which.other")]):
         raise Failed(f"beside {names}, these papers are offered: {offered}")
     page.push(say("which.write"))
     page.wait_text(say("which.missing"))
     page.choose(say("which.other"))
     for typed, text in [("x", say("which.name.wrong")), ("0.2", say("which.here", name="0.2")), ("0.02", say("which.here", name="0.2")), ("1.1", say("which.only", group=1)), ("0.16", say("which.name.wrong")), ("2", say("which.name.wrong")), ("3.0", say("which.beyond", groups=counted(3, "group")))]:
-        page.go_to("textbox", say("which.name"))
-        page.evaluate("document.activeElement.select()")
-        page.type(typed)
+        page.retype(say("which.name"), typed)
         page.push(say("which.write"))
         page.wait_text(text)
-    page.go_to("textbox", say("which.name"))
-    page.evaluate("document.activeElement.select()")
-    page.type("2.0")
+    page.retype(say("which.name"), "2.0")
     for needed in ("", "0", "17"):
-        page.go_to("spinbutton", say("which.needed"))
-        page.evaluate("document.activeElement.select()")
-        page.type(needed)
+        page.retype(say("which.needed"), needed, "spinbutton")
         page.push(say("which.write"))
         page.wait_text(say("which.needed.wrong"))
     see("which paper is missing")
-    page.go_to("spinbutton", say("which.needed"))
-    page.evaluate("document.activeElement.select()")
-    page.type("1")
+    page.retype(say("which.needed"), "1", "spinbutton")
     page.press("Enter")
     page.wait_title(say("paper.title", name="2.0"))
     if read_paper(page) != THREE_GROUPS[4]:
         raise Failed("the paper that is written isn't the missing one")
-    page.push(say("clear"))
-    page.push(say("clear.yes"))
-    page.wait_title(say("home.title"))
+    clear(page, is_asked=True)
 
 
 def check_one_group(page, _):
     """Of a backup with one group, the page says what is enough to write a paper."""
-    papers = example("two-needed.txt")
-    begin(page, "replace")
-    page.choose(say("replace.destroyed"))
-    page.push(say("continue"))
-    paste(page, papers[0])
+    begin_replace(page)
+    paste(page, TWO[0])
     page.wait_text(say("replace.not_enough", needed=counted(2, "paper"), here=1))
-    paste(page, papers[1])
+    paste(page, TWO[1])
     page.wait_text(say("replace.enough"))
     page.push(say("collect.end"))
     page.choose(say("which.paper", name="0.1"))
-    page.push(say("which.write"))
-    page.wait_title(say("paper.title", name="0.1"))
-    page.push(say("clear"))
-    page.push(say("clear.yes"))
-    page.wait_title(say("home.title"))
-    begin(page, "replace")
-    page.choose(say("replace.destroyed"))
-    page.push(say("continue"))
-    paste(page, example("one-of-one.txt")[0])
+    page.push(say("which.write"), to=say("paper.title", name="0.1"))
+    clear(page, is_asked=True)
+    begin_replace(page)
+    paste(page, SOUND_PAPER)
     page.wait_text(say("status.enough"))
     page.push(say("collect.end"))
     page.wait_text(say("replace.none"))
-    page.push(say("clear"))
-    page.wait_title(say("home.title"))
+    clear(page)
 
 
 def check_chosen(page, see):
@@ -182,23 +155,19 @@ def check_chosen(page, see):
     page.wait_text(say("plan.sentence.both"))
     for wallet in ("flag", "older"):
         page.push(say("continue"))
-        page.push(say("plan.sure.yes"))
-        page.wait_title(say("make.wallet"))
+        page.push(say("plan.sure.yes"), to=say("make.wallet"))
         page.choose(say(f"wallet.{wallet}"))
         page.choose(say("entry.words", count=33))
         page.push(say("back" if wallet == "flag" else "continue"))
     page.wait_title(say("make.secret"))
     page.evaluate("document.querySelector('details').open = true; null")
-    page.go_to("spinbutton", say("more.exponent"))
-    page.evaluate("document.activeElement.select()")
-    page.type("3")
+    page.retype(say("more.exponent"), "3", "spinbutton")
     page.choose(say("secret.own"))
     go_back(page, say("make.wallet"))
     go_back(page, say("make.plan"))
     for answer, title in [("continue", "plan.sure.title"), ("plan.sure.yes", "make.wallet"), ("continue", "make.secret")]:
-        page.push(say(answer))
-        page.wait_title(say(title))
-    if not page.is_true("(it) => it.getAttribute('aria-checked') === 'true'", page.node("radio", say("secret.own"))):
+        page.push(say(answer), to=say(title))
+    if not page.is_chosen(say("secret.own")):
         raise Failed("on the way back, another secret is chosen")
     see("what was chosen stays")
     page.choose(say("secret.new"))
@@ -208,9 +177,7 @@ def check_chosen(page, see):
     share = plain.parse(read_paper(page).encode())
     if share["extendable"] or share["exponent"] != 3 or len(share["value"]) != 32:
         raise Failed(f"on the way back, what was chosen for the secret is lost: {share}")
-    page.push(say("clear"))
-    page.push(say("clear.yes"))
-    page.wait_title(say("home.title"))
+    clear(page, is_asked=True)
 
 
 CHECKS = [check_first_steps, check_make, check_chosen, check_passphrase, check_which, check_one_group]

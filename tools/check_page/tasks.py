@@ -1,33 +1,10 @@
 """Each task of the page from its start to its end, by keyboard alone.
 
-The values that the page must show are from outside: from examples/, from tools/plain.py, or from ./shamir.
+The values that the page must show are from outside (tools/samples.py).
 """
-import pathlib
-import sys
-
 from browsers import Failed
+from samples import FINGERPRINT, PASSPHRASE, SECRET, THREE_GROUPS, check_papers_of, fingerprint_of, name_of, swappable, swapped, with_words
 from texts import counted, say
-
-ROOT = pathlib.Path(__file__).resolve().parent.parent.parent
-sys.path.insert(0, str(ROOT / "tools"))
-import plain  # noqa: E402
-
-PASSPHRASE = "TREZOR"
-
-
-def example(name):
-    return [line for line in (ROOT / "examples" / name).read_text().splitlines() if line and not line.startswith("#")]
-
-
-THREE_GROUPS = example("three-groups.txt")
-SECRET = "bb54aac4b89dc868ba37d9cc21b2cece"
-FINGERPRINT = "df41d8fe"
-SOUND_PAPER = example("one-of-one.txt")[0]
-
-
-def fingerprint_of(lines, passphrase):
-    """Returns the fingerprint of the secret of mnemonics, by the plain reading."""
-    return plain.run_recover(passphrase.encode(), "".join(line + "\n" for line in lines).encode(), True)[0].strip()
 
 
 def begin(page, task):
@@ -41,6 +18,13 @@ def begin(page, task):
     page.wait(lambda: page.title() not in [say("home.title"), say("prepare.title"), say("prepare.sure.title")], "the first screen of the task")
 
 
+def begin_replace(page, why="destroyed"):
+    """Starts to replace a paper, and says what became of it."""
+    begin(page, "replace")
+    page.choose(say(f"replace.{why}"))
+    page.push(say("continue"))
+
+
 def type_paper(page, line, is_by_four=False):
     """Types a paper's words. Each word is followed by a space, or only its first four letters are typed."""
     page.go_to("textbox", say("entry.word", number=1))
@@ -50,12 +34,38 @@ def type_paper(page, line, is_by_four=False):
     page.type("".join(f"{word[:4]} " for word in line.split()) if is_by_four else line + " ")
 
 
-def answer_passphrase(page, passphrase, noted):
-    """Answers the questions for the passphrase and for the noted fingerprint. None stands for none."""
+def paste(page, text):
+    """Pastes a text into the first field. The clipboard itself isn't used, since other programs of this machine share it."""
+    page.go_to("textbox", say("entry.word", number=1))
+    script = "{ const event = new Event('paste', { bubbles: true, cancelable: true }); event.clipboardData = { getData: () => " + repr(text) + " };"
+    page.evaluate(script + " document.activeElement.dispatchEvent(event); } null")
+
+
+def take(page, lines):
+    """Pastes papers that are taken."""
+    for line in lines:
+        paste(page, line)
+        page.wait_text(say("collect.taken", name=name_of(line)))
+
+
+def take_all(page, lines):
+    """Pastes papers that are taken, and goes on."""
+    take(page, lines)
+    page.push(say("collect.end"))
+
+
+def type_passphrase(page, passphrase, *labels):
+    """Types a passphrase into the fields with these labels. None stands for none."""
     if passphrase is None:
         page.tick(say("passphrase.none"))
     else:
-        page.fill(say("passphrase.label"), passphrase)
+        for label in labels:
+            page.fill(say(label), passphrase)
+
+
+def answer_passphrase(page, passphrase, noted):
+    """Answers the questions for the passphrase and for the noted fingerprint. None stands for none."""
+    type_passphrase(page, passphrase, "passphrase.label")
     if noted is None:
         page.tick(say("noted.none"))
     else:
@@ -63,19 +73,30 @@ def answer_passphrase(page, passphrase, noted):
     page.push(say("continue"))
 
 
+def drill(page, passphrase, noted):
+    """Answers these questions, and begins the drill."""
+    answer_passphrase(page, passphrase, noted)
+    page.push(say("drill.start"))
+
+
 def choose_wallet(page, wallet="flag", words=20):
     """Goes on from the plan, and says which wallet will read the papers, and how many words it asks for."""
-    page.push(say("continue"))
-    page.wait_title(say("make.wallet"))
+    page.push(say("continue"), to=say("make.wallet"))
     page.choose(say(f"wallet.{wallet}"))
     if words != 20:
         page.choose(say("entry.words", count=words))
-    page.push(say("continue"))
-    page.wait_title(say("make.secret"))
+    page.push(say("continue"), to=say("make.secret"))
 
 
 def end(page):
-    page.push(say("end"))
+    page.push(say("end"), to=say("home.title"))
+
+
+def clear(page, is_asked=False):
+    """Leaves a task before its end. `is_asked` says that the page asks whether that is meant, since papers are half written."""
+    page.push(say("clear"))
+    if is_asked:
+        page.push(say("clear.yes"))
     page.wait_title(say("home.title"))
 
 
@@ -85,10 +106,22 @@ def read_paper(page):
     return page.evaluate("[...document.querySelectorAll('.paper li')].map((it) => it.textContent).join(' ')")
 
 
+def write_down(page, look=lambda number: None):
+    """Writes down each paper that the page shows, and goes on. Returns them. `look` is called with the number of each while it is shown."""
+    papers = []
+    while page.title() != say("back.begin.title"):
+        papers.append(read_paper(page))
+        shown = page.title()
+        look(len(papers))
+        page.push(say("paper.written"))
+        page.wait(lambda: page.title() != shown, "the end of a paper")
+    page.push(say("continue"))
+    return papers
+
+
 def create(page, is_noted=False):
     """Makes the papers, and goes on to the first. `is_noted` says that the secret was compared with a noted fingerprint."""
-    page.push(say("make.create"))
-    page.wait_title(say("make.forms"))
+    page.push(say("make.create"), to=say("make.forms"))
     if (say("secret.same") in page.text()) != is_noted:
         raise Failed("the page doesn't say that the digits have the noted fingerprint, or says it of other ones")
     page.push(say("forms.go"))
@@ -102,41 +135,32 @@ def make(page, plan_label, wallet, words, passphrase, see, digits=None):
     choose_wallet(page, wallet, words)
     if digits is not None:
         type_digits(page, digits, digits, FINGERPRINT)
-    if passphrase is None:
-        page.tick(say("passphrase.none"))
-    else:
-        page.fill(say("passphrase.label"), passphrase)
-        page.fill(say("passphrase.again"), passphrase)
+    type_passphrase(page, passphrase, "passphrase.label", "passphrase.again")
     see("secret")
     create(page, digits is not None)
-    papers = []
-    while True:
-        page.wait(lambda: page.title().startswith("Write down") or page.title() == say("back.begin.title"), "the next paper")
-        if page.title() == say("back.begin.title"):
-            break
-        papers.append(read_paper(page))
-        if len(papers) == 1:
+
+    def look(number):
+        if number == 1:
             page.wait_text("the name 0.0 and the words")
             see("paper")
-        shown = page.title()
-        page.push(say("paper.written"))
-        page.wait(lambda: page.title() != shown, "the end of a paper")
-    page.push(say("continue"))
+
+    papers = write_down(page, look)
     for number, line in enumerate(papers):
-        name = plain.parse(line.encode())
-        page.wait_title(say("back.title", name=f"{name['group']}.{name['member']}"))
+        page.wait_title(say("back.title", name=name_of(line)))
         if number:
-            page.wait_text(say("back.same", name=typed))
-        typed = f"{name['group']}.{name['member']}"
+            page.wait_text(say("back.same", name=name_of(papers[number - 1])))
         if number == 1:
             page.type(papers[0] + " ")
-            page.wait_text(say("back.other", typed="0.0", name=f"{name['group']}.{name['member']}"))
+            page.wait_text(say("back.other", typed="0.0", name=name_of(line)))
             see("typed another paper back")
         if number == 2:
-            type_wrongly(page, line.split())
+            # As if it was written down wrongly.
+            type_paper(page, swapped(line, swappable(line)))
+            page.wait_text(say("back.refused.13"))
+            page.push(say("entry.empty"))
         type_paper(page, line, is_by_four=number % 2 == 1)
     page.wait_title(say("noted.title" if digits is None else "noted.title.own"))
-    page.wait_text(say("back.same", name=typed))
+    page.wait_text(say("back.same", name=name_of(papers[-1])))
     see("fingerprint")
     if [say(key) in page.text() for key in ("noted.apart", "noted.papers")] != [passphrase is not None, passphrase is None]:
         raise Failed("the page doesn't say whether the fingerprint may stand on the papers, or says it though there is a passphrase")
@@ -160,28 +184,14 @@ def prove(page, passphrase, fingerprint, is_drawn, see):
     see("what was noted")
     if fingerprint in page.text() or is_drawn == bool(page.located("checkbox", say("noted.none"))):
         raise Failed("the fingerprint is shown while it is asked for, or the owner of a new secret needn't type it")
-    if passphrase is None:
-        page.tick(say("passphrase.none"))
-    else:
-        page.fill(say("passphrase.label"), passphrase)
+    type_passphrase(page, passphrase, "passphrase.label")
     for typed, text in [("", "proof.missing"), ("xyz", "proof.wrong"), (fingerprint, "drill.what")] if is_drawn else [(fingerprint, "drill.what")]:
-        page.go_to("textbox", say("noted.label"))
-        page.evaluate("document.activeElement.select()")
-        page.type(typed)
+        page.retype(say("noted.label"), typed)
         page.push(say("continue"))
         page.wait_text(say(text))
-    page.push(say("drill.start"))
-    page.wait_title(say("make.done"))
+    page.push(say("drill.start"), to=say("make.done"))
     if not page.evaluate("Boolean(document.querySelector('.verdict .good'))") or fingerprint not in page.text():
         raise Failed("a backup that gives the noted secret isn't said to")
-
-
-def type_wrongly(page, words):
-    """Types a paper back with two words that changed places, as if it was written down so."""
-    at = next(it for it in range(2, len(words) - 1) if words[it] != words[it + 1])
-    type_paper(page, " ".join([*words[:at], words[at + 1], words[at], *words[at + 2 :]]))
-    page.wait_text(say("back.refused.13"))
-    page.push(say("entry.empty"))
 
 
 def type_digits(page, digits, again, noted):
@@ -197,22 +207,13 @@ def type_digits(page, digits, again, noted):
 
 def check_make(page, see):
     """A new secret of 16 bytes in 2of3, one of 32 bytes in groups, and an own secret, each beside the plain reading."""
-    for plan, wallet, words, passphrase, digits in [
-        ("two", "flag", 20, None, None),
-        ("home", "older", 33, "six words and 'signs' ~", None),
-        ("three", "unknown", 20, PASSPHRASE, SECRET),
+    for label, plan, wallet, words, passphrase, digits in [
+        ("two", "2of3", "flag", 20, None, None),
+        ("home", "2/2of3,1of1,1of1", "older", 33, "six words and 'signs' ~", None),
+        ("three", "3of5", "unknown", 20, PASSPHRASE, SECRET),
     ]:
-        papers, fingerprint = make(page, say(f"plan.{plan}"), wallet, words, passphrase, see, digits)
-        wanted = {"two": ["2/3"], "home": ["2/3", "1/1", "1/1"], "three": ["3/5"]}[plan]
-        found = {}
-        for share in (plain.parse(line.encode()) for line in papers):
-            found.setdefault(share["group"], []).append(share)
-            if share["extendable"] != (wallet == "flag") or share["exponent"] != 1:
-                raise Failed(f"a new backup for a wallet ({wallet}) has the flag {share['extendable']} and the exponent {share['exponent']}")
-        if [f"{shares[0]['member_threshold']}/{len(shares)}" for shares in found.values()] != wanted:
-            raise Failed(f"the papers of {plan} aren't those of the plan")
-        if any(len(line.split()) != words for line in papers):
-            raise Failed(f"a paper of {plan} hasn't {words} words")
+        papers, fingerprint = make(page, say(f"plan.{label}"), wallet, words, passphrase, see, digits)
+        check_papers_of(papers, plan, int(wallet == "flag"), 1, words)
         if fingerprint_of(papers, passphrase or "") != fingerprint:
             raise Failed(f"the fingerprint of a new backup is {fingerprint}, and the plain reading differs")
         if digits is not None and fingerprint != FINGERPRINT:
@@ -225,38 +226,31 @@ def check_papers(page, see):
     see("empty entry")
     for number, line in enumerate(THREE_GROUPS):
         type_paper(page, line, is_by_four=number % 2 == 0)
-        share = plain.parse(line.encode())
-        page.wait_text(say("collect.taken", name=f"{share['group']}.{share['member']}"))
+        page.wait_text(say("collect.taken", name=name_of(line)))
         if number == 1:
             see("papers so far")
     page.type(THREE_GROUPS[0] + " ")
     page.wait_text(say("collect.repeated", name="0.0"))
     page.push(say("collect.end"))
-    answer_passphrase(page, PASSPHRASE, FINGERPRINT)
-    page.push(say("drill.start"))
+    drill(page, PASSPHRASE, FINGERPRINT)
     page.wait_text(say("verdict.all.noted", quorums=counted(7, "quorum"), fingerprint=FINGERPRINT))
     page.wait_text(say("quorum.what"))
     page.wait_title(say("check.done.good"))
-    if say("again") in page.text():
-        raise Failed("a good result is offered to be tried again")
+    page.lacks(say("again"), "a good result is offered to be tried again")
     see("end of a good check")
-    page.push(say("collect.back"))
-    page.wait_title(say("check.title"))
+    page.push(say("collect.back"), to=say("check.title"))
     page.push(say("collect.end"))
-    answer_passphrase(page, "TREZOr", FINGERPRINT)
-    page.push(say("drill.start"))
+    drill(page, "TREZOr", FINGERPRINT)
     page.wait_text(say("verdict.other", quorums=counted(7, "quorum"), noted=FINGERPRINT))
     page.wait_text(say("drill.other"))
     page.wait_title(say("check.done.other"))
     page.wait_text(say("verdict.other", quorums=counted(7, "quorum"), noted=FINGERPRINT))
     page.wait_text(say("check.other"))
     see("end of a check with a wrong passphrase")
-    page.push(say("again"))
-    page.wait_title(say("check.passphrase"))
+    page.push(say("again"), to=say("check.passphrase"))
     if not page.is_true(f"(it) => it.value === '{FINGERPRINT}'", page.node("textbox", say("noted.label"))):
         raise Failed("another try empties the noted fingerprint")
-    page.push(say("clear"))
-    page.wait_title(say("home.title"))
+    clear(page)
 
 
 def check_recover(page, see):
@@ -269,19 +263,16 @@ def check_recover(page, see):
     answer_passphrase(page, "TREZOr", FINGERPRINT)
     page.wait_title(say("recover.done.other"))
     see("another secret is recovered")
-    if say("digits.show") in page.text():
-        raise Failed("the digits of another secret than the noted one are offered")
+    page.lacks(say("digits.show"), "the digits of another secret than the noted one are offered")
     page.push(say("again"))
     answer_passphrase(page, PASSPHRASE, FINGERPRINT)
     page.wait_title(say("recover.done.same"))
-    if SECRET[:8] in page.text():
-        raise Failed("the digits show before the button is pressed")
+    page.lacks(SECRET[:8], "the digits show before the button is pressed")
     page.push(say("digits.show"))
     page.wait(lambda: SECRET in page.text().replace(" ", ""), "the digits")
     page.wait_text(say("recover.next"))
     see("recovered")
-    if say("again") in page.text():
-        raise Failed("a recovery of the noted secret is offered to be tried again")
+    page.lacks(say("again"), "a recovery of the noted secret is offered to be tried again")
     page.press("Enter")
     page.wait(lambda: SECRET[:8] not in page.text(), "the end of the digits")
     end(page)
@@ -297,8 +288,7 @@ def check_replace(page, see):
     for line in THREE_GROUPS[:1] + THREE_GROUPS[3:]:
         type_paper(page, line)
     page.wait_text(say("collect.taken", name="2.0"))
-    page.push(say("collect.end"))
-    page.wait_title(say("replace.which"))
+    page.push(say("collect.end"), to=say("replace.which"))
     see("which paper is missing")
     page.choose(say("which.paper", name="0.1"))
     page.push(say("which.write"))
@@ -309,31 +299,36 @@ def check_replace(page, see):
     page.wait_title(say("replace.which"))
     page.wait_text(say("back.same", name="0.1"))
     page.push(say("replace.end"))
-    answer_passphrase(page, PASSPHRASE, None)
-    page.push(say("drill.start"))
+    drill(page, PASSPHRASE, None)
     page.wait_text(say("verdict.all.same", quorums=counted(3, "quorum"), fingerprint=FINGERPRINT))
     page.wait_title(say("check.done.same"))
-    for text in (say("noted.first"), say("replace.tried.one", names="0.1")):
-        page.wait_text(text)
+    page.wait_text(say("noted.first"), say("replace.tried.one", names="0.1"))
     if say("check.done.good") in page.text() or say("again") not in page.text():
         raise Failed("without a noted fingerprint, a result is said to be good")
     see("end of a check without a noted fingerprint")
     end(page)
-    begin(page, "replace")
-    page.choose(say("replace.other"))
-    page.push(say("continue"))
+    begin_replace(page, "other")
     page.wait_text(say("replace.new.change"))
     see("a new backup instead")
-    page.push(say("replace.new.change.go"))
-    page.wait_title(say("change.title"))
-    page.push(say("back"))
-    page.wait_title(say("home.title"))
+    page.push(say("replace.new.change.go"), to=say("change.title"))
+    page.push(say("back"), to=say("home.title"))
 
 
 def type_damaged(page, line):
     """Types what can be read of a paper. A space ends each word."""
     page.push(say("entry.empty"))
     page.type(line + " ")
+
+
+def write_anew(page, line):
+    """Types what can be read of a paper of which one word is open, writes it anew, and types it back."""
+    name = name_of(line)
+    page.wait_title(say("damaged.title"))
+    paste(page, with_words(line, {6: "?"}))
+    page.push(say("damaged.write", name=name), to=say("paper.title", name=name))
+    page.push(say("paper.written"), to=say("back.title", name=name))
+    paste(page, line)
+    page.wait_title(say("damaged.check.title"))
 
 
 def found_words(page):
@@ -347,7 +342,7 @@ def check_damaged(page, see):
     words = THREE_GROUPS[1].split()
     begin(page, "damaged")
     see("damaged paper")
-    type_damaged(page, " ".join(words[:4] + ["?"] + words[5:11] + [words[11][:2] + "?"] + words[12:]))
+    type_damaged(page, with_words(THREE_GROUPS[1], {5: "?", 12: words[11][:2] + "?"}))
     page.wait_text(say("damaged.one", name="0.1"))
     wanted = f"{say('entry.word', number=5)} {words[4]}, {say('entry.word', number=12)} {words[11]}"
     page.wait(lambda: found_words(page) == wanted, f"the words {wanted!r}")
@@ -357,31 +352,25 @@ def check_damaged(page, see):
     page.press("Backspace")
     page.type("? ")
     page.push(say("entry.read"))
-    page.push(say("damaged.write", name="0.1"))
-    page.wait_title(say("paper.title", name="0.1"))
+    page.push(say("damaged.write", name="0.1"), to=say("paper.title", name="0.1"))
     if read_paper(page) != THREE_GROUPS[1]:
         raise Failed("the repaired paper isn't the damaged one")
-    page.push(say("paper.written"))
-    page.wait_title(say("back.title", name="0.1"))
+    page.push(say("paper.written"), to=say("back.title", name="0.1"))
     type_paper(page, THREE_GROUPS[1], is_by_four=True)
     page.wait_title(say("damaged.check.title"))
     page.wait_text(say("back.same", name="0.1"))
     page.wait_text(say("collect.row.repaired", name="0.1", words=20))
     see("check of a repaired paper")
-    page.push(say("collect.end"))
-    page.wait_title(say("check.done.few"))
+    page.push(say("collect.end"), to=say("check.done.few"))
     page.wait_text(say("damaged.too_few"))
-    if "sound" in page.text():
-        raise Failed(f"a repaired paper is called sound: {page.text()!r}")
+    page.lacks("sound", f"a repaired paper is called sound: {page.text()!r}")
     see("too few papers for a repaired one")
     page.push(say("collect.more"))
     for line in (THREE_GROUPS[0], THREE_GROUPS[3]):
         type_paper(page, line)
-        share = plain.parse(line.encode())
-        page.wait_text(say("collect.taken", name=f"{share['group']}.{share['member']}"))
+        page.wait_text(say("collect.taken", name=name_of(line)))
     page.push(say("collect.end"))
-    answer_passphrase(page, PASSPHRASE, FINGERPRINT)
-    page.push(say("drill.start"))
+    drill(page, PASSPHRASE, FINGERPRINT)
     page.wait_text(say("verdict.all.noted", quorums=counted(1, "quorum"), fingerprint=FINGERPRINT))
     end(page)
 

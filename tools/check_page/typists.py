@@ -15,8 +15,9 @@ sys.path.insert(0, str(pathlib.Path(__file__).resolve().parent))
 
 from browsers import NAMES, Failed, browser, workplace  # noqa: E402
 from hands import Page  # noqa: E402
-from tasks import plain  # noqa: E402
 from texts import ROOT, say  # noqa: E402
+
+import plain  # noqa: E402
 
 SCRIPT = (pathlib.Path(__file__).resolve().parent / "typists.js").read_text()
 # How much of each word is typed, and what follows it. In turn, one paper is typed whole, and of the next one four letters of each word. In the

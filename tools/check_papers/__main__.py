@@ -9,71 +9,40 @@ that each is found. A part whose tool is missing says so. The status is 1 if som
 once more, by itself.
 """
 import argparse
-import concurrent.futures
+import importlib
 import os
 import pathlib
-import subprocess
 import sys
-import time
-import traceback
 
 sys.dont_write_bytecode = True
 ROOT = pathlib.Path(__file__).resolve().parent.parent.parent
 sys.path[:0] = [str(ROOT / "tools" / "check_papers"), str(ROOT / "tools")]
 from left_out import left_out, say_skipped  # noqa: E402
+from parts import AT_ONCE, Part, all_pass, tried  # noqa: E402
+from tool import tested  # noqa: E402
 
 LIBRARY = ROOT / "bindings" / "python" / "shamir" / "libshamir.so"
 # This library is checked, whatever the environment names.
 os.environ["SHAMIR_LIBRARY"] = str(LIBRARY)
 PARTS = ["looks", "ends", "refusals", "slips", "astray", "pasted", "repaired", "apart", "change", "steps", "tasks", "traces", "scrollback", "entry", "agreement"]
-AT_ONCE = min(4, len(os.sched_getaffinity(0)))
 
 
 def check_entry(_):
     """Runs the unit tests, which need no terminal."""
     tests = sorted(map(str, (ROOT / "bindings" / "python" / "tests").glob("test_papers*.py")))
-    words = [sys.executable, "-B", "-m", "unittest", "--verbose", *tests]
-    done = subprocess.run(words, cwd=ROOT, capture_output=True, text=True)
-    if done.returncode or "\nRan 0 tests" in done.stderr:
-        raise AssertionError(done.stderr)
-    say_skipped(done.stderr)
-    return []
+    say_skipped(tested([sys.executable, "-B", "-m", "unittest", "--verbose", *tests]))
 
 
-def parts(cases):
-    import agreement
-    import apart
-    import astray
-    import change
-    import ends
-    import looks
-    import pasted
-    import refusals
-    import repaired
-    import scrollback
-    import slips
-    import steps
-    import tasks
-    import traces
+def part(name, cases):
+    """Returns a part, which says what it leaves out. Each but `entry` has a module of its name, which loads the library."""
+    check = check_entry if name == "entry" else importlib.import_module(name).check
+    given = [None, cases] if name == "agreement" else [None]
 
-    of_modules = {it.__name__: it.check for it in (tasks, refusals, steps, slips, astray, pasted, repaired, apart, change, ends, traces, scrollback, looks)}
-    return {**of_modules, "entry": check_entry, "agreement": lambda see: agreement.check(see, cases)}
+    def run():
+        for text in check(*given) or []:
+            left_out(text)
 
-
-def tried(name, check):
-    """Runs a part, and returns whether it passed."""
-    from hands import Failed
-
-    begun = time.monotonic()
-    try:
-        missing = check(None) or []
-    except Exception as fault:
-        print(f"{name}: {fault if isinstance(fault, Failed) else traceback.format_exc()}", flush=True)
-        return False
-    for text in missing:
-        left_out(text)
-    print(f"{name}: passed in {time.monotonic() - begun:.0f} seconds", flush=True)
-    return True
+    return Part(name, run, waits=True)
 
 
 def main():
@@ -90,14 +59,9 @@ def main():
     if given.faults:
         import faults
 
-        return 0 if tried("faults", faults.check) else 1
-    wanted = {name: check for name, check in parts(given.cases).items() if name in (given.parts or PARTS)}
-    with concurrent.futures.ThreadPoolExecutor(AT_ONCE) as pool:
-        passed = dict(zip(wanted, pool.map(lambda it: tried(*it), sorted(wanted.items(), key=lambda it: PARTS.index(it[0])))))
-    again = [name for name, good in zip(sorted(wanted, key=PARTS.index), passed.values()) if not good]
-    failed = [name for name in again if not tried(name, wanted[name])]
-    print(f"{len(wanted) - len(failed)} passed, {len(failed)} failed")
-    return 1 if failed else 0
+        return 0 if tried(Part("faults", faults.check)) else 1
+    wanted = [part(name, given.cases) for name in PARTS if name in (given.parts or PARTS)]
+    return 0 if all_pass(wanted, AT_ONCE) else 1
 
 
 if __name__ == "__main__":

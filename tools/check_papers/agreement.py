@@ -3,54 +3,27 @@ import concurrent.futures
 import os
 import random
 import re
-import subprocess
-import tempfile
 
-from hands import ROOT, SEED, Failed, counted, say
-from refusals import changed
-from tasks import Owner, change, expect_same, make, name_of, paper_prompt
+from hands import SEED, Failed, counted, say
+from tasks import change, check_changed, end_by_keys, make, paper_prompt, started
 
 import plain
+from samples import PLANS, PROGRAM, Generated, changed, data_of, name_of
 
 CASES = 20
 AT_ONCE = min(4, len(os.sched_getaffinity(0)))
-PLANS = ["2of3", "3of5", "1of1", "2/2of3,1of1,1of1", "2/3of5,1of1", "3/2of2,3of4,1of1,2of3"]
-PROGRAM = str(ROOT / "shamir")
+# Whether a wallet, by the answer that names it, gets papers with the flag. Of an extendable backup, that isn't asked.
+FLAGS = {"": 1, "1": 1, "2": 0, "3": 0}
 
 
-class Case:
-    """A generated backup: its plan, its passphrase and its papers, by ./shamir."""
-
-    def __init__(self, source):
-        self.source, self.plan = source, source.choice(PLANS)
-        self.passphrase = "".join(chr(source.randrange(32, 127)) for _ in range(source.randrange(12)))
-        secret = source.randbytes(source.choice([16, 32])).hex()
-        words = ["create", self.plan, "--master-secret", secret, "--exponent", str(source.randrange(2))]
-        words += ["--extendable"] if source.random() < 0.5 else []
-        needed = self.told(words, b"")[1].split()
-        self.papers = self.told(words, source.randbytes(int(needed[-2])))[0].splitlines()
-        self.noted = self.told(["recover", "--fingerprint"], self.input(self.papers))[0].strip()
-
-    def input(self, papers):
-        return "".join(line + "\n" for line in papers).encode()
-
-    def told(self, words, data):
-        """Returns the output of ./shamir, its message and its status."""
-        with tempfile.NamedTemporaryFile() as file:
-            file.write(self.passphrase.encode())
-            file.flush()
-            options = ["--passphrase-file", file.name] if words[0] in ("create", "recover", "drill") else []
-            done = subprocess.run([PROGRAM, *words, *options], input=data, capture_output=True)
-        return done.stdout.decode(), done.stderr.decode(), done.returncode
-
-    def some(self):
-        """Returns some of the papers, in any order. One of them may be forged."""
-        chosen = self.source.sample(self.papers, self.source.randint(max(1, len(self.papers) - 2), len(self.papers)))
-        if self.source.random() < 0.3:
-            at = self.source.randrange(len(chosen))
-            value = plain.parse(chosen[at].encode())["value"]
-            chosen[at] = changed(chosen[at], value=self.source.randbytes(len(value)))
-        return chosen
+def some(case):
+    """Returns some of the papers, in any order. One of them may be forged."""
+    chosen = case.source.sample(case.papers, case.source.randint(max(1, len(case.papers) - 2), len(case.papers)))
+    if case.source.random() < 0.3:
+        at = case.source.randrange(len(chosen))
+        value = plain.parse(chosen[at].encode())["value"]
+        chosen[at] = changed(chosen[at], value=case.source.randbytes(len(value)))
+    return chosen
 
 
 def typed(chance, line):
@@ -64,7 +37,6 @@ def typed(chance, line):
 
 
 def collect(owner, case, papers):
-    owner.prepare()
     for number, line in enumerate(papers, 1):
         owner.answer(paper_prompt(number), typed(case.source, line))
         owner.wait(paper_prompt(number + 1))
@@ -74,15 +46,14 @@ def collect(owner, case, papers):
 
 def expect_too_few(owner, case, papers):
     """Checks what is said of too few papers, by what `status` says."""
-    said = case.told(["status"], case.input(papers))[0].splitlines()
+    said = case.told(["status"], data_of(papers))[0].splitlines()
     owner.wait(say("more.papers"))
     for line in said[1:]:
         _, group, _, members, _, threshold, names = line.split(" ")
         owner.expect(say("status.here", names=names.replace("+", ", ")))
         if int(members) < int(threshold):
             owner.expect(say("status.missing", more=counted(int(threshold) - int(members), "paper")))
-    owner.answer(say("more.papers"), "e")
-    owner.end(0)
+    owner.finish(say("more.papers"))
 
 
 def expected_verdict(case, lines):
@@ -100,23 +71,22 @@ def expected_verdict(case, lines):
 
 
 def compare_check(case):
-    papers = case.some()
-    output, message, status = case.told(["drill", "--fingerprint"], case.input(papers))
-    with Owner("check") as owner:
+    papers = some(case)
+    output, message, status = case.told(["drill", "--fingerprint"], data_of(papers))
+    with started("check") as owner:
         collect(owner, case, papers)
         if status == 1 and not output:
             return expect_too_few(owner, case, papers)
         owner.passphrase(case.passphrase, case.noted)
         owner.wait(say("next.good"), say("next.again"), say("next.papers"))
         owner.expect(expected_verdict(case, output.splitlines()[:-1]))
-        owner.type("\x03")
-        owner.end(130)
+        end_by_keys(owner)
 
 
 def compare_recover(case):
-    papers = case.some()
-    output, message, status = case.told(["recover"], case.input(papers))
-    with Owner("recover") as owner:
+    papers = some(case)
+    output, message, status = case.told(["recover"], data_of(papers))
+    with started("recover") as owner:
         collect(owner, case, papers)
         if " 30 " in message:
             return expect_too_few(owner, case, papers)
@@ -125,15 +95,13 @@ def compare_recover(case):
             owner.wait(say("next.papers"))
             code, *group = re.findall(r"\d+", message)
             owner.expect(say(f"refused.{code}", first=group[0]) if group else say(f"refused.{code}.groups"))
-            owner.type("\x03")
-            owner.end(130)
+            end_by_keys(owner)
             return None
         owner.answer(f"{say('recover.show')} (y/n)", "y")
         owner.wait(say("recover.clear"))
         if "".join(re.findall(r"\b[0-9a-f]{8}\b", owner.screen())) != output.strip():
             raise Failed(f"{case.plan}: the dialogue shows other digits than ./shamir")
-        owner.type("\x03")
-        owner.end(130)
+        end_by_keys(owner)
 
 
 def compare_replace(case):
@@ -142,20 +110,16 @@ def compare_replace(case):
     rest = [line for line in case.papers if line != lost]
     if not rest:
         return compare_check(case)
-    output, message, status = case.told(["reissue", case.plan, name_of(lost)], case.input(rest))
+    output, message, status = case.told(["reissue", case.plan, name_of(lost)], data_of(rest))
     groups, group = re.findall(r"(\d+)of", case.plan), int(name_of(lost).split(".")[0])
     choose = say("replace.choose" if len(groups) > 1 else "replace.choose.only")
-    with Owner("replace") as owner:
-        owner.wait(say("safety.go"))
-        owner.answer(say("safety.go"), "")
+    with started("replace") as owner:
         owner.answer(say("replace.how"), "1")
-        owner.prepare = lambda: None
         collect(owner, case, rest)
         if owner.wait(say("more.papers"), choose) == say("more.papers"):
             if status == 0:
                 raise Failed(f"{case.plan}: ./shamir writes a paper that the dialogue calls undetermined")
-            owner.type("\x03")
-            return owner.end(130)
+            return end_by_keys(owner)
         owner.answer(choose, name_of(lost))
         if group not in [int(name_of(line).split(".")[0]) for line in rest]:
             owner.answer(say("which.ask.needed", group=group), groups[group])
@@ -166,8 +130,7 @@ def compare_replace(case):
         else:
             owner.wait(choose)
             owner.expect(say("which.untold", name=name_of(lost)))
-        owner.type("\x03")
-        owner.end(130)
+        end_by_keys(owner)
 
 
 def compare_change(case):
@@ -175,19 +138,19 @@ def compare_change(case):
     extendable."""
     plan, is_extendable = case.source.choice(PLANS), bool(plain.parse(case.papers[0].encode())["extendable"])
     old = case.source.sample(case.papers, len(case.papers))
-    with Owner("change") as owner:
+    with started("change") as owner:
         collect(owner, case, old)
         if not is_extendable:
             owner.passphrase(case.passphrase, case.noted)
-        papers = change(owner, plan, "" if is_extendable else case.source.choice("123"))
+        wallet = "" if is_extendable else case.source.choice("123")
+        papers = change(owner, plan, wallet)
         owner.passphrase(case.passphrase, case.noted)
         owner.wait(say("screen.end"))
-        owner.type("\x03")
-        owner.end(130)
-    before, after = [case.told(["recover", "--fingerprint"], case.input(lines)) for lines in (old, papers)]
+        end_by_keys(owner)
+    before, after = [case.told(["recover", "--fingerprint"], data_of(lines)) for lines in (old, papers)]
     if before != after or before[0].strip() != case.noted:
         raise Failed(f"{case.plan} to {plan}: ./shamir recovers another secret from the new papers")
-    expect_same(owner, old, papers, [case.passphrase, "another"] if is_extendable else [case.passphrase])
+    check_changed(owner, old, papers, plan, FLAGS[wallet], case.passphrase)
 
 
 def compare_repair(case):
@@ -198,26 +161,22 @@ def compare_repair(case):
     told = case.told(["repair"], (" ".join(words) + "\n").encode())[0].splitlines()
     # The dialogue takes no paper that no backup has.
     fits = [fit for fit in told if (fields := plain.parse(fit.encode()))["group"] < fields["group_count"]]
-    with Owner("repair") as owner:
-        owner.prepare()
+    with started("repair") as owner:
         owner.answer(say("damaged.ask"), " ".join(words))
         owner.wait(say("damaged.menu"), say("damaged.menu.two"))
         owner.expect(say("damaged.two") if len(fits) == 2 else say("damaged.one", name=name_of(fits[0])))
         for fit in fits:
             found = [(number, word) for number, (word, mark) in enumerate(zip(fit.split(), words), 1) if word != mark]
             owner.expect(" ".join(f"- {say('entry.place', number=number)}: {word}" for number, word in found))
-        owner.type("\x03")
-        owner.end(130)
+        end_by_keys(owner)
 
 
 def compare_new(case):
     """Makes a backup of the owner's own secret. ./shamir recovers that secret from the papers that are shown."""
-    secret = case.told(["recover"], case.input(case.papers))[0].strip()
-    names = [name_of(line) for line in case.papers]
-    with Owner("new", case.plan) as owner:
-        owner.prepare()
-        papers, noted = make(owner, case.passphrase, names, secret, case.source.choice(["", case.noted]))
-    if noted != case.noted or case.told(["recover"], case.input(papers))[0].strip() != secret:
+    secret = case.secret.hex()
+    with started("new", case.plan) as owner:
+        papers, noted = make(owner, case.passphrase, case.plan, secret, case.source.choice(["", case.noted]))
+    if noted != case.noted or case.told(["recover"], data_of(papers))[0].strip() != secret:
         raise Failed(f"{case.plan}: ./shamir recovers another secret from papers of the dialogue")
 
 
@@ -226,7 +185,7 @@ COMPARE = [compare_check, compare_check, compare_check, compare_recover, compare
 
 def compare(number):
     source = random.Random(number)
-    case = Case(source)
+    case = Generated(source)
     one = source.choice(COMPARE)
     try:
         one(case)

@@ -1,18 +1,12 @@
 """Papers of several backups: they are kept apart, the first one isn't trusted, and the owner says which backup is meant."""
-from astray import silent, with_words
 from hands import say
-from refusals import LONG, TWO, changed, end_by_keys, started
 from slips import sure
-from tasks import FINGERPRINT, PASSPHRASE, SIGN, SOUND_PAPER, THREE_GROUPS, fingerprint_of, name_of, paper_prompt
+from tasks import SIGN, end_by_keys, in_turn, paper_prompt, started
 
+from samples import FINGERPRINT, LONG, PASSPHRASE, SOUND_PAPER, THREE_GROUPS, TWO, changed, fingerprint_of, name_of, named, opening, with_words
 from shamir.papers.marks import said_count
 
 CHOOSE = say("backup.choose")
-
-
-def opening(line):
-    """Returns the words with which all papers of a backup begin."""
-    return " ".join(line.split()[:2])
 
 
 def headed(line):
@@ -47,16 +41,14 @@ def check_first():
         owner.expect(say("check.done.left_out"))
         owner.expect(say("verdict.all.noted", quorums="1 quorum", fingerprint=FINGERPRINT))
         owner.expect(say("left.backup.one", names=name_of(TWO[0]), begin=opening(TWO[0])))
-        silent(owner, say("check.done.good"))
+        owner.lacks(say("check.done.good"))
         end_by_keys(owner)
 
 
 def check_each():
     """Papers of two backups are enough. Each is recovered as if the others weren't there. Too few of one are told as such."""
     with started("recover") as owner:
-        for number, line in enumerate([SOUND_PAPER, *THREE_GROUPS[3:], TWO[0]], 1):
-            owner.type_paper(paper_prompt(number), line)
-        owner.answer(paper_prompt(5), "")
+        owner.collect([SOUND_PAPER, *THREE_GROUPS[3:], TWO[0]])
         for number, papers in [("1", [SOUND_PAPER]), ("2", THREE_GROUPS[3:])]:
             owner.answer(CHOOSE, number)
             owner.passphrase(PASSPHRASE, fingerprint_of(papers, PASSPHRASE))
@@ -70,8 +62,7 @@ def check_each():
         owner.wait(say("more.papers"))
         owner.expect(say("recover.too_few"))
         owner.expect(say("left.backup.many", names="1.0, 2.0", begin=opening(THREE_GROUPS[3])))
-        owner.answer(say("more.papers"), "e")
-        owner.end(0)
+        owner.finish(say("more.papers"))
 
 
 def check_names():
@@ -123,7 +114,7 @@ def check_pasted():
         owner.type("".join(f"{line}\n" for line in lines))
         owner.wait(paper_prompt(6))
         for papers in (THREE_GROUPS[:2], TWO, [SOUND_PAPER]):
-            owner.expect(say("paste.taken.backup", names=", ".join(map(name_of, papers)), begin=opening(papers[0])))
+            owner.expect(say("paste.taken.backup", names=named(papers), begin=opening(papers[0])))
         owner.expect(say("paste.repeated.backup", names=name_of(TWO[0]), begin=opening(TWO[0])))
         owner.expect(say("collect.apart", count=3))
         end_by_keys(owner)
@@ -139,7 +130,7 @@ def check_found():
         owner.answer(sure("0.0"), "y")
         owner.wait(paper_prompt(2))
         owner.expect(say("refused.repaired.new"))
-        silent(owner, say("collect.apart", count=2))
+        owner.lacks(say("collect.apart", count=2))
         end_by_keys(owner)
     with started("check") as owner:
         owner.answer(paper_prompt(1), with_words(elsewhere[0], {6: "?"}))
@@ -156,8 +147,4 @@ def check_found():
 
 
 CHECKS = [check_first, check_each, check_names, check_counts, check_pasted, check_found]
-
-
-def check(see):
-    for one in CHECKS:
-        one()
+check = in_turn(CHECKS)

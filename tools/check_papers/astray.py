@@ -3,30 +3,13 @@ answer must lead on."""
 import os
 
 from hands import END, Failed, counted, say
-from refusals import NUMBERED, changed, end_by_keys, started, word_prompt
-from slips import papers_of, sure
-from tasks import FINGERPRINT, PASSPHRASE, SECRET, SIGN, SOUND_PAPER, THREE_GROUPS, Owner, fingerprint_of, name_of, paper_prompt
+from refusals import NUMBERED, word_prompt
+from slips import sure
+from tasks import SIGN, end_by_keys, in_turn, paper_prompt, started
+
+from samples import FINGERPRINT, PASSPHRASE, SECRET, SOUND_PAPER, THREE_GROUPS, changed, fingerprint_of, name_of, named, papers_of, swapped, with_words
 
 PLAN = "2/3of5,1of1"
-
-
-def with_words(line, changes):
-    """Returns a paper with other words at some places, counted from 1."""
-    words = line.split()
-    for place, word in changes.items():
-        words[place - 1] = word
-    return " ".join(words)
-
-
-def swapped(line, place):
-    words = line.split()
-    return with_words(line, {place: words[place], place + 1: words[place - 1]})
-
-
-def silent(owner, text):
-    """Checks that a text wasn't shown since the last `forget`."""
-    if text in owner.emulator.all_seen():
-        raise Failed(f"this is shown, and shouldn't be: {text!r}")
 
 
 def leave_out_two(owner, papers):
@@ -55,18 +38,17 @@ def check_left_out():
             owner.passphrase("", noted)
             owner.wait(say("next.good"))
             owner.expect(say(f"check.done.{title}"))
-            names = [name_of(line) for line in papers if left == 0 or line in papers[:3] + papers[5:] or (left == 1 and line == papers[3])]
-            owner.expect(say("verdict.papers", names=", ".join(names)))
-            silent(owner, say("check.done.good" if left else "check.done.left_out"))
-            silent(owner, "left out" if not left else "The papers that you typed have no others")
+            tried = [line for line in papers if left == 0 or line in papers[:3] + papers[5:] or (left == 1 and line == papers[3])]
+            owner.expect(say("verdict.papers", names=named(tried)))
+            owner.lacks(say("check.done.good" if left else "check.done.left_out"))
+            owner.lacks("left out" if not left else "The papers that you typed have no others")
             if left:
                 owner.expect(counted(left, "left"))
                 owner.answer(say("next.good"), "p")
                 number = 7 - left
                 owner.type_paper(paper_prompt(number), more)
                 owner.reply(paper_prompt(number + 1), "")
-        owner.answer(say("next.good"), "e")
-        owner.end(0)
+        owner.finish(say("next.good"))
 
 
 def check_refused():
@@ -75,13 +57,12 @@ def check_refused():
         owner.collect([THREE_GROUPS[3]])
         owner.answer(say("more.papers"), "")
         owner.type_paper(paper_prompt(2), changed(THREE_GROUPS[3], value=bytes.fromhex(SECRET)))
-        owner.type_paper(paper_prompt(2), THREE_GROUPS[4])
-        owner.reply(paper_prompt(3), "")
+        owner.collect([THREE_GROUPS[4]], 2)
         owner.passphrase(PASSPHRASE, FINGERPRINT)
         owner.wait(say("next.good"))
         owner.expect(say("check.done.left_out"))
         owner.expect(say("left.sound.one", names="1.0"))
-        silent(owner, counted(1, "left"))
+        owner.lacks(counted(1, "left"))
         end_by_keys(owner)
 
 
@@ -96,7 +77,7 @@ def check_pasted_papers():
                 owner.type("".join(f"{end}{line}{end}" for line in papers) + last)
                 owner.wait(paper_prompt(4))
                 owner.expect(say("paste.taken", names="0.0, 0.1, 0.2"))
-                silent(owner, say("collect.none"))
+                owner.lacks(say("collect.none"))
                 while owner.pull(0.2):
                     pass
                 # A terminal can send both for the key.
@@ -155,8 +136,7 @@ def check_instead():
         owner.wait(say("replace.new.choose"))
         owner.expect("'Change the plan' (change) writes new papers from those that you have")
         owner.expect("or if you don't have enough of them to recover it. Then make a new wallet while the old one still works")
-        owner.answer(say("replace.new.choose"), "e")
-        owner.end(0)
+        owner.finish(say("replace.new.choose"))
 
 
 def check_letter():
@@ -195,8 +175,7 @@ def check_letter():
         owner.expect(say("make.note", said="this one paper recovers the secret", plan="1of1"))
         if b"TREZOR" in owner.raw:
             raise Failed("a passphrase shows that was typed in place of an answer")
-        owner.answer(say("screen.end"), "e")
-        owner.end(0)
+        owner.finish(say("screen.end"))
     if name_of(line) != "0.0" or fingerprint_of([line], "b") == fingerprint_of([line], ""):
         raise Failed("the passphrase isn't the letter")
     for task in ("check", "recover"):
@@ -210,8 +189,7 @@ def check_letter():
             owner.answer(say("noted.ask"), fingerprint_of(papers, "b"))
             if task == "recover":
                 owner.answer(f"{say('recover.show')} (y/n)", "n")
-            owner.answer(say("next.good"), "e")
-            owner.end(0)
+            owner.finish(say("next.good"))
 
 
 def check_without():
@@ -230,25 +208,22 @@ def check_without():
         owner.expect("This isn't a plan. Plans are typed so: 2of3")
         owner.answer(say("new.plan.choose"), "1of1")
         owner.settle()
-        owner.answer(say("new.secret"), "")
-        owner.answer(say("new.passphrase"), "")
-        owner.answer(f"{say('new.passphrase.none')} {say('screen.yes.back')}", "y")
+        owner.draw()
         line = owner.written()[0]
         owner.answer(say("screen.next"), "")
         owner.wait(say("back.ask", name="0.0"))
-        silent(owner, "Type the words in their order")
+        owner.lacks("Type the words in their order")
         owner.answer(say("back.ask", name="0.0"), line)
         owner.wait(say("noted.done"))
-        silent(owner, "helps to guess the passphrase")
+        owner.lacks("helps to guess the passphrase")
         owner.answer(say("noted.done"), "")
         owner.prove(owner.noted(), "")
         owner.wait(say("screen.end"))
         owner.expect(say("quorum.what"))
         owner.expect("This backup has no passphrase.")
         owner.expect("This paper alone recovers the secret, so keep it where nobody finds it.")
-        silent(owner, "if there is one, in another place")
-        owner.answer(say("screen.end"), "e")
-        owner.end(0)
+        owner.lacks("if there is one, in another place")
+        owner.finish(say("screen.end"))
 
 
 def check_end():
@@ -283,8 +258,7 @@ def check_end():
         owner.type("\x03")
         owner.wait(END)
         owner.answer(END, "n")
-        owner.answer(say("damaged.menu"), "e")
-        owner.end(0)
+        owner.finish(say("damaged.menu"))
 
 
 def check_back():
@@ -313,7 +287,7 @@ def check_lost():
         owner.answer(say("which.ask.needed", group=1), "1")
         owner.wait(say("replace.choose"))
         owner.expect(f"{say('which.untold', name='1.0')} No other papers give it. If your wallet still works, make a new wallet, and move your money to it.")
-        silent(owner, "Or it takes")
+        owner.lacks("Or it takes")
         owner.answer(say("replace.choose"), "0.4")
         owner.answer(say("new.write"), "")
         owner.type_paper(say("back.ask", name="0.4"), papers[4])
@@ -326,26 +300,21 @@ def check_lost():
         owner.answer(say("replace.choose"), "d")
         owner.wait(say("more.papers"))
         owner.expect(say("replace.done"))
-        silent(owner, say("replace.few"))
+        owner.lacks(say("replace.few"))
         # With enough papers, the drill comes next.
         owner.answer(say("more.papers"), papers[5])
         owner.answer(paper_prompt(7), "")
         owner.passphrase("", fingerprint_of(papers[:3] + papers[5:], ""))
         owner.wait(say("next.good"))
         owner.expect(say("check.done.written"))
-        owner.answer(say("next.good"), "e")
-        owner.end(0)
+        owner.finish(say("next.good"))
 
 
 def check_unsaid():
     """What a terminal that can't be cleared does, a passphrase that wasn't typed, and a paper of another backup."""
-    with Owner("new", "1of1", TERM="dumb") as owner:
-        owner.prepare()
+    with started("new", "1of1", TERM="dumb") as owner:
         owner.settle()
-        owner.answer(say("new.secret"), "")
-        owner.answer(say("new.passphrase"), "")
-        owner.answer(f"{say('new.passphrase.none')} {say('screen.yes.back')}", "y")
-        owner.wait(say("new.write.plain"))
+        owner.draw()
         if b"cleared then" in owner.raw:
             raise Failed("words are said to be cleared that stay")
         end_by_keys(owner)
@@ -363,8 +332,8 @@ def check_unsaid():
             owner.passphrase("", FINGERPRINT)
             owner.wait(say("next.again"))
             owner.expect(told)
-            silent(owner, "With this passphrase")
-            silent(owner, "the passphrase is mistyped")
+            owner.lacks("With this passphrase")
+            owner.lacks("the passphrase is mistyped")
             end_by_keys(owner)
 
 
@@ -380,14 +349,9 @@ def check_line():
 
 def check_size():
     """A terminal that gets another size shows a paper anew, and any other screen as it was."""
-    with Owner("new", "1of1", columns=80, rows=24) as owner:
-        owner.prepare()
+    with started("new", "1of1", columns=80, rows=24) as owner:
         owner.settle()
-        owner.answer(say("new.secret"), "")
-        owner.answer(say("new.passphrase"), "")
-        owner.answer(f"{say('new.passphrase.none')} {say('screen.yes.back')}", "y")
-        owner.wait(say("new.write"))
-        words = owner.words()
+        words = owner.draw()
         for columns, rows in [(40, 30), (80, 24)]:
             owner.resize(columns, rows)
             owner.wait(say("new.write"))
@@ -428,8 +392,4 @@ CHECKS = [
     check_line,
     check_size,
 ]
-
-
-def check(see):
-    for one in CHECKS:
-        one()
+check = in_turn(CHECKS)

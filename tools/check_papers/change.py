@@ -1,25 +1,18 @@
 """The task 'change': old papers with and without the extendable flag, what is refused, the ways back, and how it ends."""
 from hands import END, Failed, say
-from refusals import changed, end_by_keys, started
-from slips import sure, type_damaged
-from tasks import PASSPHRASE, SIGN, SOUND_PAPER, THREE_GROUPS, change, expect_same, fingerprint_of, name_of, paper_prompt, secret_of
+from slips import type_damaged
+from tasks import SIGN, change, check_changed, end_by_keys, in_turn, paper_prompt, started
 
 import plain
+from samples import PASSPHRASE, SOUND_PAPER, THREE_GROUPS, changed, fingerprint_of, name_of, papers_of
 
 AGAIN = say("make.failed.again")
 
 
 def backup(plan, is_extendable, exponent=0):
-    """Returns the papers of a backup with the passphrase, by the plain reading, and the fingerprint of its secret."""
-    plan = plain.parse_plan(plan)
-    random = bytes(at * 3 % 256 for at in range(plain.random_needed(plan, 16)))
-    papers = [plain.mnemonic(share) for share in plain.create(plan, bytes(range(16)), PASSPHRASE.encode(), exponent, is_extendable, random)]
+    """Returns the papers of a backup with the passphrase, and the fingerprint of its secret."""
+    papers = papers_of(plan, PASSPHRASE, exponent, is_extendable)
     return papers, fingerprint_of(papers, PASSPHRASE)
-
-
-def silent(owner, text):
-    if text in owner.emulator.all_seen():
-        raise Failed(f"this is shown, and shouldn't be: {text!r}")
 
 
 def check_flagless():
@@ -42,20 +35,15 @@ def check_flagless():
                 owner.wait(AGAIN)
                 owner.expect(say("change.other"))
                 owner.expect(say("change.unproved"))
-                silent(owner, say("change.done"))
+                owner.lacks(say("change.done"))
                 owner.answer(AGAIN, "t")
             owner.passphrase(PASSPHRASE, noted)
             owner.wait(say("screen.end"))
             for key in ("change.same", "change.old.renewed", "change.restore"):
                 owner.expect(say(key))
-            silent(owner, say("change.unnoted"))
-            owner.answer(say("screen.end"), "e")
-            owner.end(0)
-            expect_same(owner, old, new[1:], [PASSPHRASE])
-            if plain.parse(new[0].encode())["extendable"] != flag:
-                raise Failed(f"with the answer {wallet}, the new papers have another flag than {flag}")
-            if secret_of(old, "another") == secret_of(new, "another"):
-                raise Failed("without the flag, another passphrase gives the same wallet")
+            owner.lacks(say("change.unnoted"))
+            owner.finish(say("screen.end"))
+            check_changed(owner, old, new, "2of3", flag)
 
 
 def check_unnoted():
@@ -72,14 +60,12 @@ def check_unnoted():
             owner.expect(say("change.agree"))
             owner.expect(say(key))
             owner.expect(say("change.done" if is_extendable else "change.done.unproved"))
-            silent(owner, "[ok]")
-            owner.answer(say("screen.end"), "e")
-            owner.end(0)
-            expect_same(owner, old, new, [PASSPHRASE, "", "another"] if is_extendable else [PASSPHRASE])
+            owner.lacks("[ok]")
+            owner.finish(say("screen.end"))
+            check_changed(owner, old, new, "1of1", 1)
     with started("change") as owner:
         type_damaged(owner, 1, THREE_GROUPS[3])
-        owner.type_paper(paper_prompt(2), THREE_GROUPS[4])
-        owner.answer(paper_prompt(3), "")
+        owner.collect([THREE_GROUPS[4]], 2)
         owner.passphrase(PASSPHRASE, "")
         change(owner, "1of1", "1")
         owner.passphrase(PASSPHRASE, "")
@@ -94,33 +80,28 @@ def check_refused():
     old, noted = backup("3of5", True)
     value = plain.parse(old[1].encode())["value"]
     with started("change") as owner:
-        owner.type_paper(paper_prompt(1), old[0])
-        owner.type_paper(paper_prompt(2), SOUND_PAPER)
-        owner.answer(paper_prompt(3), "")
+        owner.collect([old[0], SOUND_PAPER])
         owner.answer(say("backup.choose"), "1")
         owner.wait(say("more.papers"))
         owner.expect(say("recover.too_few"))
         owner.answer(say("more.papers"), "")
         owner.answer(paper_prompt(3), f"{SIGN}0.0")
         owner.answer(say("entry.drop.which", name="0.0"), "2")
-        owner.type_paper(paper_prompt(2), changed(old[1], value=value[::-1]))
-        owner.type_paper(paper_prompt(3), old[2])
-        owner.answer(paper_prompt(4), "")
+        owner.collect([changed(old[1], value=value[::-1]), old[2]], 2)
         owner.answer(say("new.plan.choose"), "2of3")
         owner.wait(say("next.good"))
         owner.expect(say("change.failed"))
         owner.expect(say("refused.51", first=0))
-        silent(owner, say("new.write"))
+        owner.lacks(say("new.write"))
         owner.answer(say("next.good"), "p")
         owner.answer(paper_prompt(4), f"{SIGN}0.1")
-        owner.type_paper(paper_prompt(3), old[1])
-        owner.answer(paper_prompt(4), "")
+        owner.collect([old[1]], 3)
         change(owner, "2of3")
         # A fingerprint that the old papers don't give shows no agreement.
         owner.passphrase(PASSPHRASE, "01234567")
         owner.wait(AGAIN)
         owner.expect(say("verdict.other", quorums="1 quorum", noted="01234567"))
-        silent(owner, say("change.done"))
+        owner.lacks(say("change.done"))
         owner.answer(AGAIN, "t")
         owner.passphrase(PASSPHRASE, noted)
         owner.wait(say("screen.end"))
@@ -138,9 +119,8 @@ def check_wrong():
         for key in ("change.old.title", "change.unproved", "change.old.wrong"):
             owner.expect(say(key))
         owner.expect(say("verdict.suspects.one", names="0.2"))
-        silent(owner, say("change.done"))
-        owner.answer(AGAIN, "e")
-        owner.end(0, "closed.changing")
+        owner.lacks(say("change.done"))
+        owner.finish(AGAIN, "closed.changing")
 
 
 def check_mark(owner):
@@ -188,8 +168,7 @@ def check_ways():
         owner.answer(ask, "")
         owner.answer(say("noted.ask"), noted)
         owner.answer(AGAIN, "")
-        owner.answer(AGAIN, "e")
-        owner.end(0, "closed.changing")
+        owner.finish(AGAIN, "closed.changing")
     old, _ = backup("2of3", True)
     with started("change") as owner:
         owner.collect(old[1:])
@@ -225,7 +204,7 @@ def check_pasted():
         owner.wait(say("screen.end"))
         owner.expect(say("change.done"))
         end_by_keys(owner)
-        expect_same(owner, old, new[:2], [PASSPHRASE, "another"])
+        check_changed(owner, old, new, "2of3", 1)
 
 
 def check_lost():
@@ -243,8 +222,4 @@ def check_lost():
 
 
 CHECKS = [check_flagless, check_unnoted, check_refused, check_wrong, check_ways, check_pasted, check_lost]
-
-
-def check(see):
-    for one in CHECKS:
-        one()
+check = in_turn(CHECKS)

@@ -8,10 +8,11 @@ import subprocess
 import sys
 import termios
 
-from hands import BINDING, END, PATIENCE, Failed, Interrupted, Session, environment, habits, say
-from tasks import FINGERPRINT, PASSPHRASE, THREE_GROUPS, Owner, check_change, check_check, check_new, check_recover, check_repair, check_replace, check_what, name_of, paper_prompt
+from hands import END, PATIENCE, Failed, Interrupted, environment, habits, say
+from tasks import TASKS, check_new, end_by_keys, paper_prompt, started
 
 import plain
+from samples import FINGERPRINT, PASSPHRASE, THREE_GROUPS, with_words
 
 AT_ONCE = 4
 # The fields of a paper that is a quorum alone, and takes long.
@@ -56,7 +57,7 @@ def questions_of(task):
 def check_keys(see):
     """Ctrl-C and Ctrl-D at each question of each task: nothing is kept, and the terminal is as before."""
     papers, noted = check_new(see)
-    tasks = [lambda: check_new(see), *(lambda it=it: it(papers, noted) for it in (check_check, check_recover, check_replace, check_change, check_repair, check_what))]
+    tasks = [lambda: check_new(see), *(lambda it=it: it(papers, noted) for it in TASKS)]
     with concurrent.futures.ThreadPoolExecutor(AT_ONCE) as pool:
         numbers = list(pool.map(questions_of, tasks))
         jobs = [(task, number, "\x03" if at % 3 else "\x04") for task, found in zip(tasks, numbers) for at, number in enumerate(found)]
@@ -68,22 +69,19 @@ def check_keys(see):
 
 def check_in_the_middle():
     """Ctrl-C in the middle of a line, after a word that was typed."""
-    with Owner("check") as owner:
-        owner.prepare()
+    with started("check") as owner:
         owner.wait(paper_prompt(1))
         owner.type("shadow pistol")
         owner.wait_shown(lambda: "pistol" in owner.screen(), "a word that was typed isn't shown")
         owner.type("\x04")
         owner.pull(0.2)
-        owner.type("\x03")
-        owner.end(130)
+        end_by_keys(owner)
 
 
 def check_signals():
     """TERM and HUP end the program as they ask, and QUIT as Ctrl-C does."""
     for number, status in [(signal.SIGTERM, -signal.SIGTERM), (signal.SIGHUP, -signal.SIGHUP), (signal.SIGINT, 130), (signal.SIGQUIT, 130)]:
-        with Owner("check") as owner:
-            owner.prepare()
+        with started("check") as owner:
             owner.answer(paper_prompt(1), THREE_GROUPS[0])
             owner.wait(paper_prompt(2))
             owner.run.send_signal(number)
@@ -102,14 +100,27 @@ def stop(owner):
         owner.answer(f"{say('work.sure')} (y/n)", answer)
 
 
+def settle_slow(owner, exponent):
+    """Takes the plan, the wallet and a high exponent for a new secret."""
+    owner.settle()
+    owner.answer(say("new.secret"), "m")
+    owner.answer(say("new.exponent"), exponent)
+    owner.answer("Is that right? (y/n)", "y")
+
+
+def drill_slowly(owner):
+    """Makes a backup with a high exponent, up to its drill."""
+    settle_slow(owner, "8")
+    owner.draw(PASSPHRASE)
+    owner.type_back(owner.written())
+    owner.answer(say("noted.done"), "")
+    owner.prove(owner.noted(), PASSPHRASE)
+
+
 def check_work():
     """Ctrl-C while the library works for long, and the key that stops that."""
-    with Owner("new", "2of3") as owner:
-        owner.prepare()
-        owner.settle()
-        owner.answer(say("new.secret"), "m")
-        owner.answer(say("new.exponent"), "15")
-        owner.answer("Is that right? (y/n)", "y")
+    with started("new", "2of3") as owner:
+        settle_slow(owner, "15")
         owner.answer(say("new.secret"), "1")
         owner.answer(say("new.passphrase"), "TREZOR")
         owner.answer(say("new.passphrase.again"), "TREZOR")
@@ -123,15 +134,13 @@ def check_work():
         owner.answer(say("new.passphrase"), "TREZOR")
         owner.answer(say("new.passphrase.again"), "TREZOR")
         wait_working(owner)
-        owner.type("\x03")
-        owner.end(130)
+        end_by_keys(owner)
 
 
 def check_stopped_drill():
     """A drill that is stopped says of no quorum that it is right. Each of these papers is a quorum with a secret of its own. Enter stops
     nothing."""
-    with Owner("check") as owner:
-        owner.prepare()
+    with started("check") as owner:
         owner.collect([plain.mnemonic({**SLOW, "group": group, "value": bytes([group]) * 16}) for group in range(4)])
         owner.passphrase("", "01234567")
         wait_working(owner)
@@ -143,38 +152,24 @@ def check_stopped_drill():
         owner.expect(say("check.done.stopped"))
         owner.expect(say("drill.tried", tried=0, total=4))
         owner.expect(say("time.long", exponent=12, time="").split("about")[0])
-        owner.answer(say("next.again"), "e")
-        owner.end(0)
+        owner.finish(say("next.again"))
 
 
 def check_unproved():
     """A new backup whose drill was stopped is no finished one, and the program says so at its end."""
     # The drill takes ten times as long as the making.
-    with Owner("new", "3of5") as owner:
-        owner.prepare()
-        owner.settle()
-        owner.answer(say("new.secret"), "m")
-        owner.answer(say("new.exponent"), "8")
-        owner.answer("Is that right? (y/n)", "y")
-        first_paper(owner, settles=False)
-        papers = owner.written()
-        owner.answer(say("screen.next"), "")
-        for line in papers:
-            owner.answer(say("back.ask", name=name_of(line)), line)
-        owner.answer(say("noted.done"), "")
-        owner.prove(owner.noted(), PASSPHRASE)
+    with started("new", "3of5") as owner:
+        drill_slowly(owner)
         wait_working(owner)
         stop(owner)
         owner.wait(say("make.failed.again"))
         owner.expect(say("make.unproved"))
-        owner.answer(say("make.failed.again"), "e")
-        owner.end(0, "closed.unfinished")
+        owner.finish(say("make.failed.again"), "closed.unfinished")
 
 
 def check_two_signals():
     """A second signal doesn't keep the terminal from being restored. The stop lets both come at once."""
-    with Owner("check") as owner:
-        owner.prepare()
+    with started("check") as owner:
         owner.collect([plain.mnemonic({**SLOW, "exponent": 15})])
         owner.passphrase("", "01234567")
         wait_working(owner)
@@ -185,8 +180,7 @@ def check_two_signals():
 
 def check_stopped():
     """After a stop that the program couldn't notice, the screen is shown again, and the echo is off."""
-    with Owner("check") as owner:
-        owner.prepare()
+    with started("check") as owner:
         owner.collect([THREE_GROUPS[3], THREE_GROUPS[4]])
         owner.wait(say("passphrase.ask"))
         shown, modes = owner.screen(), termios.tcgetattr(owner.theirs)
@@ -205,8 +199,7 @@ def check_stopped():
 
 def check_closed():
     """A terminal that is closed ends the program."""
-    with Owner("check") as owner:
-        owner.prepare()
+    with started("check") as owner:
         owner.wait(paper_prompt(1))
         os.close(owner.theirs)
         os.close(owner.ours)
@@ -238,8 +231,7 @@ def check_no_terminal():
 
 def check_menu():
     """Without a task, the program asks for one, by its number or its word. Help answers questions."""
-    with Owner() as owner:
-        owner.prepare()
+    with started() as owner:
         owner.answer(say("home.choose"), "h")
         owner.answer(say("help.choose"), "")
         owner.answer(say("help.choose"), "4")
@@ -250,8 +242,7 @@ def check_menu():
         owner.type("\x04")
         owner.end(130)
     for answer in ("2", "check"):
-        with Owner() as owner:
-            owner.prepare()
+        with started() as owner:
             owner.answer(say("home.choose"), "9")
             owner.answer(say("home.choose"), answer)
             owner.wait(paper_prompt(1))
@@ -280,21 +271,10 @@ def leave(owner, keys, status, said, is_asked=True):
         raise Failed(f"the program asked before it ended: {owner.was_asked}")
 
 
-def first_paper(owner, settles=True):
-    """Makes a backup, and returns the first paper that is shown."""
-    if settles:
-        owner.settle()
-    owner.answer(say("new.secret"), "")
-    owner.answer(say("new.passphrase"), PASSPHRASE)
-    owner.answer(say("new.passphrase.again"), PASSPHRASE)
-    owner.wait(say("new.write"))
-    return owner.words()
-
-
 def made_until(owner, prompt):
     """Makes a backup of one paper, up to this question. What is typed of it stays, if the owner doesn't end."""
-    owner.prepare()
-    line = first_paper(owner)
+    owner.settle()
+    line = owner.draw(PASSPHRASE)
     for ask, typed in [(say("new.write"), ""), (say("screen.next"), ""), (say("back.ask", name="0.0"), line), (say("noted.done"), ""), (say("screen.end"), "")]:
         owner.wait(ask)
         if ask == prompt:
@@ -317,23 +297,23 @@ def made_until(owner, prompt):
 def check_written():
     """Once a paper was shown to be written, Ctrl-C and Ctrl-D ask, and the program says what the papers are that were written."""
     for prompt in (say("new.write"), say("screen.next"), say("back.ask", name="0.0")):
-        with Owner("new", "1of1") as owner:
+        with started("new", "1of1") as owner:
             made_until(owner, prompt)
             stay(owner, "\x03", prompt)
             stay(owner, "\x04", prompt)
             leave(owner, "\x03", 130, "ended.unfinished")
-    with Owner("new", "1of1") as owner:
+    with started("new", "1of1") as owner:
         made_until(owner, say("noted.done"))
         leave(owner, "\x04", 130, "ended.unfinished")
-    with Owner("new", "1of1") as owner:
+    with started("new", "1of1") as owner:
         made_until(owner, say("screen.end"))
         leave(owner, "\x03", 130, "ended.made", False)
-    with Owner("new", "1of1") as owner:
+    with started("new", "1of1") as owner:
         made_until(owner, say("new.write"))
         owner.type("\x03")
         owner.wait(END)
         leave(owner, "\x03", 130, "ended.unfinished", False)
-    with Owner("new", "1of1") as owner:
+    with started("new", "1of1") as owner:
         made_until(owner, say("new.write"))
         owner.send(signal.SIGTERM)
         owner.end(-signal.SIGTERM, "ended.unfinished")
@@ -341,17 +321,15 @@ def check_written():
 
 def check_written_again():
     """The same for papers that are written again, and for a drill that runs."""
-    with Owner("repair") as owner:
-        owner.prepare()
-        owner.answer(say("damaged.ask"), THREE_GROUPS[0].replace(THREE_GROUPS[0].split()[9], "?"))
+    with started("repair") as owner:
+        owner.answer(say("damaged.ask"), with_words(THREE_GROUPS[0], {10: "?"}))
         owner.answer(say("damaged.menu"), "w")
         owner.answer(f"{say('damaged.sure', name='0.0')} (y/n)", "y")
         owner.wait(say("new.write"))
         stay(owner, "\x03", say("new.write"))
         leave(owner, "\x03", 130, "ended.repaired")
     for is_drilled in (False, True):
-        with Owner("replace") as owner:
-            owner.prepare()
+        with started("replace") as owner:
             owner.answer(say("replace.how"), "1")
             owner.collect([THREE_GROUPS[0], *THREE_GROUPS[3:]])
             owner.answer(say("replace.choose"), "0.1")
@@ -368,18 +346,8 @@ def check_written_again():
 
 def check_held_drill():
     """Ctrl-C while the drill of a new backup runs: the drill goes on if the owner stays."""
-    with Owner("new", "1of1") as owner:
-        owner.prepare()
-        owner.settle()
-        owner.answer(say("new.secret"), "m")
-        owner.answer(say("new.exponent"), "8")
-        owner.answer("Is that right? (y/n)", "y")
-        line = first_paper(owner, settles=False)
-        owner.answer(say("new.write"), "")
-        owner.answer(say("screen.next"), "")
-        owner.answer(say("back.ask", name="0.0"), line)
-        owner.answer(say("noted.done"), "")
-        owner.prove(owner.noted(), PASSPHRASE)
+    with started("new", "1of1") as owner:
+        drill_slowly(owner)
         owner.expect(say("time.long", exponent=8, time="").split("about")[0])
         owner.type("\x03")
         owner.wait(END)

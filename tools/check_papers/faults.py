@@ -10,6 +10,7 @@ import ends
 import hands
 import looks
 import pasted
+import planted
 import refusals
 import repaired
 import scrollback
@@ -157,51 +158,37 @@ def check_hidden():
 
 def copied(folder):
     """Copies the program to a folder, with the page's table of sentences. Returns the folder of its package."""
-    copy = pathlib.Path(folder, "python")
+    copy = folder / "python"
     shutil.copytree(BINDING, copy, ignore=shutil.ignore_patterns("__pycache__"))
     shutil.copyfile(ROOT / "page" / "texts.js", copy / "shamir" / "papers" / "texts.js")
     return copy
 
 
-def check_copy():
-    """Checks that a copy in which nothing is planted passes, or each fault would be found."""
-    with tempfile.TemporaryDirectory() as folder:
-        habits.how = {"package": copied(folder)}
-        try:
-            refusals.check_words()
-            tasks.check(None)
-        finally:
-            del habits.how
-
-
-def missed(what, module, old, new, check_it):
-    """Plants a fault. Returns its name if its check doesn't find it, or an empty text."""
-    with tempfile.TemporaryDirectory() as folder:
-        copy = copied(folder)
-        path = copy / "shamir" / "papers" / f"{module}.py"
-        text = path.read_text()
-        if text.count(old) != 1:
-            raise Failed(f"{module}.py has {old!r} {text.count(old)} times, so nothing can be planted there")
-        planted = text.replace(old, new)
-        # A program that doesn't compile fails each check.
-        compile(planted, str(path), "exec")
-        path.write_text(planted)
-        habits.how = {"package": copy}
-        try:
+def look(copy, *checks):
+    """Runs checks of a copy in place of the program."""
+    habits.how = {"package": copy}
+    try:
+        for check_it in checks:
             check_it(None)
-        except Failed as found:
-            print(f"planted: {what}: {str(found)[:120]!r}", flush=True)
-            return ""
-        finally:
-            del habits.how
-    return what
+    finally:
+        del habits.how
 
 
-def check(see):
+def plant(folder, module, old, new, check_it):
+    """Plants a fault in a module of a copy. Returns what looks for it."""
+    copy = copied(folder)
+    path = copy / "shamir" / "papers" / f"{module}.py"
+    text = planted.changed(path.read_text(), old, new, path.name)
+    # A program that doesn't compile fails each check.
+    compile(text, str(path), "exec")
+    path.write_text(text)
+    return lambda: look(copy, check_it)
+
+
+def check():
+    """Plants each fault. A copy in which nothing is planted has to pass, or each fault would be found."""
     # What a fault keeps from coming is waited for in vain.
     hands.PATIENCE = 8
-    check_copy()
-    missing = [it for it in (missed(*fault) for fault in FAULTS) if it]
-    if missing:
-        raise Failed(f"these planted faults aren't found: {', '.join(missing)}")
-    return []
+    with tempfile.TemporaryDirectory() as folder:
+        look(copied(pathlib.Path(folder)), lambda _: refusals.check_words(), tasks.check)
+    planted.check(FAULTS, plant)

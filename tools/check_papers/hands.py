@@ -19,6 +19,7 @@ ROOT = pathlib.Path(__file__).resolve().parent.parent.parent
 BINDING = ROOT / "bindings" / "python"
 sys.path[:0] = [str(BINDING), str(ROOT / "tools")]
 from shamir.papers.texts import TABLE, counted, say  # noqa: E402, F401
+from tool import Failed  # noqa: E402
 
 PROGRAM = [sys.executable, "-m", "shamir.papers"]
 # An answer may take this many seconds.
@@ -29,10 +30,6 @@ MORE = say("screen.more") + " "
 END = f"{say('end.ask')} (y/n)"
 # What the program says of the papers if it ends before the task does.
 ENDS = ["ended", *(f"ended.{it}" for it in ("unfinished", "changing", "made", "replaced", "repaired"))]
-
-
-class Failed(Exception):
-    pass
 
 
 class Interrupted(Exception):
@@ -157,6 +154,11 @@ class Session:
         """Waits until a sentence was shown since the last `forget`."""
         wanted = " ".join(text.split())
         self.wait_shown(lambda: wanted in self.emulator.all_seen(), f"{wanted!r} isn't shown")
+
+    def lacks(self, text, why="this is shown, and shouldn't be"):
+        """Checks that a text wasn't shown since the last `forget`."""
+        if text in self.emulator.all_seen():
+            raise Failed(f"{why}: {text!r}")
 
     def forget(self):
         self.emulator.seen = []

@@ -5,11 +5,9 @@ import re
 
 from emulator import Emulator
 from hands import SEED, Failed, habits, say
-from tasks import check_change, check_check, check_new, check_recover, check_repair, check_replace, check_what
+from tasks import TASKS, check_new
 
 from shamir.papers.line import Line
-
-TASKS = [check_check, check_recover, check_replace, check_change, check_repair, check_what]
 
 
 def gone_through(look, **how):

@@ -1,28 +1,14 @@
 """Papers that are pasted at once: each is judged, and nothing is dropped without a word."""
 from hands import END, Failed, counted, say
-from refusals import changed, end_by_keys, rows_of, started, word_prompt
-from slips import papers_of
-from tasks import SIGN, Owner, name_of, paper_prompt
+from refusals import rows_of, word_prompt
+from tasks import SIGN, Owner, end_by_keys, in_turn, paper_prompt, started
 
+from samples import changed, name_of, named, opening, papers_of, with_words
 from shamir.papers.marks import said_count
 
 # As many papers as fit no screen.
 MANY = "16/" + ",".join(["2of3"] * 16)
 SIZES = [(80, 24), (120, 40)]
-
-
-def misspelt(line, place, word):
-    words = line.split()
-    return " ".join([*words[: place - 1], word, *words[place:]])
-
-
-def first(line):
-    """Returns how a paper begins, as the program names it."""
-    return " ".join(line.split()[:4])
-
-
-def named(lines):
-    return ", ".join(map(name_of, lines))
 
 
 def check_many():
@@ -41,18 +27,18 @@ def check_many():
 def check_misspelt():
     """The first of 48 papers is misspelt, one is forged, and one lacks a word: the others are taken, and the owner mends those two."""
     papers = papers_of(MANY)
-    wrong, short, forged = misspelt(papers[0], 5, "acdemic"), " ".join(papers[7].split()[:-1]), changed(papers[1], value=bytes(16))
+    wrong, short, forged = with_words(papers[0], {5: "acdemic"}), " ".join(papers[7].split()[:-1]), changed(papers[1], value=bytes(16))
     with started("check") as owner:
         owner.wait(paper_prompt(1))
         owner.type("".join(f"{line}\n" for line in [wrong, *papers[1:7], short, forged, *papers[8:]]))
         owner.answer(say("paste.mend"), "")
         owner.expect(say("paste.taken", names=named([*papers[1:7], *papers[8:]])))
         for line, why in [(wrong, "Word 5, acdemic, isn't in the word list (academic"), (short, said_count(19, 20)), (forged, say("refused.28", first=0, second=1))]:
-            owner.expect(f"Not taken: the paper that begins with '{first(line)}'. {why}")
+            owner.expect(f"Not taken: the paper that begins with '{opening(line, 4)}'. {why}")
         owner.answer(word_prompt(5), papers[0].split()[4])
         owner.answer(say("entry.on", typed=said_count(19, 20), number=20, sign=SIGN), papers[7].split()[-1])
         owner.wait(paper_prompt(49))
-        owner.expect(say("paste.now", begin=first(short)))
+        owner.expect(say("paste.now", begin=opening(short, 4)))
         owner.expect(say("collect.taken", name="0.0"))
         owner.expect(say("collect.taken", name=name_of(papers[7])))
         end_by_keys(owner)
@@ -108,7 +94,7 @@ def check_dropped():
     papers = papers_of("2of3")
     for early, is_told in [("perhaps\n", True), ("\n\n", False)]:
         with started("check") as owner:
-            owner.answer(paper_prompt(1), misspelt(papers[0], 5, "acdemic"))
+            owner.answer(paper_prompt(1), with_words(papers[0], {5: "acdemic"}))
             owner.wait(word_prompt(5))
             owner.forget()
             owner.type(f"acdmic\n{early}")
@@ -123,9 +109,7 @@ def check_back():
     """All papers are pasted where the first one is typed back: only that is taken, and the next screen says so too."""
     with started("new", "2of3") as owner:
         owner.settle()
-        owner.answer(say("new.secret"), "")
-        owner.answer(say("new.passphrase"), "")
-        owner.answer(f"{say('new.passphrase.none')} {say('screen.yes.back')}", "y")
+        owner.draw()
         papers = owner.written()
         owner.answer(say("screen.next"), "")
         owner.wait(say("back.ask", name="0.0"))
@@ -178,7 +162,7 @@ def check_amid():
     on one screen, and the owner then mends the first one."""
     papers = papers_of(MANY)
     words = papers[0].split()
-    half, wrong, anew = " ".join(words[:15]), misspelt(papers[0], 5, "acdemic"), misspelt(papers[0], 6, "acdemic")
+    half, wrong, anew = opening(papers[0], 15), with_words(papers[0], {5: "acdemic"}), with_words(papers[0], {6: "acdemic"})
     unknown = "Word {}, acdemic, isn't in the word list (academic"
     for typed, asked, pasted, why, mended, answer in [
         (wrong, word_prompt(5), papers[1:], unknown.format(5), word_prompt(5), words[4]),
@@ -192,7 +176,7 @@ def check_amid():
             owner.type("".join(f"{line}\n" for line in pasted))
             owner.answer(say("paste.mend"), "")
             owner.expect(say("paste.taken", names=named(papers[1:])))
-            owner.expect(f"Not taken: the paper that begins with '{first(typed)}'. {why}")
+            owner.expect(f"Not taken: the paper that begins with '{opening(typed, 4)}'. {why}")
             owner.answer(mended, answer)
             owner.wait(paper_prompt(49))
             owner.expect(say("collect.taken", name="0.0"))
@@ -249,8 +233,4 @@ def check_tab():
 
 
 CHECKS = [check_amid, check_amid_rest, check_early, check_tab, check_answers, check_many, check_misspelt, check_rows, check_elsewhere, check_dropped, check_back, check_cut]
-
-
-def check(see):
-    for one in CHECKS:
-        one()
+check = in_turn(CHECKS)

@@ -1,41 +1,14 @@
 """What can be wrong with papers and passphrases, and what the program says and asks then."""
 from hands import Failed, counted, say
-from tasks import FINGERPRINT, PASSPHRASE, SIGN, SOUND_PAPER, THREE_GROUPS, Owner, example, fingerprint_of, name_of, paper_prompt
+from tasks import SIGN, end_by_keys, in_turn, paper_prompt, started
 
-import plain
+from samples import BAD_CHECKSUM, BAD_PADDING, BIP39, BIP39_LONG, EXCHANGED, FINGERPRINT, LONG, PASSPHRASE, SOUND_PAPER, THREE_GROUPS, TWO
+from samples import changed, fingerprint_of, name_of, named, refused_beside, with_words
 from shamir.papers.marks import said_count
 
-TWO = example("two-needed.txt")
-# Published vectors of SLIP-0039. In the first, word 20 is wrong.
-BAD_CHECKSUM = SOUND_PAPER.replace("keyboard", "kidney")
-EXCHANGED = SOUND_PAPER.replace("length solution", "solution length")
-BAD_PADDING = "duckling enlarge academic academic email result length solution fridge kidney coal piece deal husband erode duke ajar music cargo fitness"
-LONG = "theory painting academic academic armed sweater year military elder discuss acne wildlife boring employer fused large satoshi bundle carbon diagnose anatomy hamster leaves tracks paces beyond phantom capital marvel lips brave detect luck"
-BIP39 = "legal winner thank year wave sausage worth useful legal winner thank yellow"
-BIP39_LONG = "abandon ability able about above absent absorb abstract absurd abuse access accident " * 2
 NUMBERED = say("entry.numbered", sign=SIGN)
 # This key erases the line.
 ERASE = "\x15"
-
-
-def changed(line, **fields):
-    """Returns the mnemonic of a share with other fields."""
-    return plain.mnemonic(plain.parse(line.encode()) | fields)
-
-
-def of_another_backup():
-    """Returns papers that are sound, and that are refused beside the first paper of the example, whose identifier they have."""
-    first = THREE_GROUPS[0]
-    value = plain.parse(first.encode())["value"]
-    return [
-        (changed(first, extendable=1), say("refused.22")),
-        (changed(first, exponent=3), say("refused.23")),
-        (changed(first, group_threshold=1), say("refused.24")),
-        (changed(first, group_count=4), say("refused.25")),
-        (changed(first, value=value + value), say("refused.26")),
-        (changed(first, member=5, member_threshold=3), say("refused.27", first=0)),
-        (changed(first, value=value[::-1]), say("refused.28", first=0, second=0)),
-    ]
 
 
 def word_prompt(number):
@@ -46,18 +19,10 @@ def back_prompt(number):
     return say("entry.word.back", number=number, sign=SIGN)
 
 
-def started(task, *words, **how):
-    owner = Owner(task, *words, **how)
-    owner.prepare()
-    return owner
-
-
 def check_words():
     """A word that isn't in the list is asked for again, and nothing else. Nothing is put in its place by itself."""
     with started("check") as owner:
-        words = SOUND_PAPER.split()
-        words[2], words[10] = "acdemic", "co"
-        owner.answer(paper_prompt(1), " ".join(words))
+        owner.answer(paper_prompt(1), with_words(SOUND_PAPER, {3: "acdemic", 11: "co"}))
         owner.answer(word_prompt(3), "acdmic")
         owner.expect("Word 3, acdemic, isn't in the word list (academic")
         for short in ("4", "academic agency"):
@@ -77,11 +42,6 @@ def check_words():
         owner.wait(paper_prompt(2))
         owner.expect(say("collect.repeated", name="0.0"))
         end_by_keys(owner)
-
-
-def end_by_keys(owner):
-    owner.type("\x03")
-    owner.end(130)
 
 
 def check_checksum():
@@ -121,12 +81,12 @@ def check_others():
     """A share that doesn't belong says why, and the papers before it stay."""
     with started("check") as owner:
         owner.answer(paper_prompt(1), THREE_GROUPS[0])
-        for line, text in of_another_backup():
+        for line, number, values in refused_beside(THREE_GROUPS[0]):
             owner.forget()
             owner.wait(paper_prompt(2))
             owner.answer(paper_prompt(2), line)
             owner.wait(paper_prompt(2))
-            owner.expect(text)
+            owner.expect(say(f"refused.{number}", **values))
             owner.expect(say("entry.drop", sign=SIGN, name="0.0"))
         owner.answer(paper_prompt(2), "")
         owner.wait(say("more.papers"))
@@ -156,7 +116,7 @@ def check_pasted():
         words = [f"{number}. {word.upper()}" for number, word in enumerate(TWO[0].split(), 1)]
         owner.type(", ".join(words[:7]) + "\n" + " ".join(words[7:]) + "\n" + TWO[1] + "\n")
         owner.wait(paper_prompt(3))
-        owner.expect(say("paste.taken", names=", ".join(map(name_of, TWO[:2]))))
+        owner.expect(say("paste.taken", names=named(TWO[:2])))
         owner.expect(say("status.enough"))
         owner.type(TWO[0].replace("always", "alwys") + "\n" + "always\n" * 3)
         owner.answer(say("paste.mend"), "")
@@ -249,14 +209,13 @@ def check_long():
 def check_open_words():
     """A paper of which a word can't be read, among other papers."""
     with started("check") as owner:
-        words = TWO[1].split()
-        owner.answer(paper_prompt(1), " ".join([*words[:5], "pra?", "?", *words[7:]]))
+        owner.answer(paper_prompt(1), with_words(TWO[1], {6: "pra?", 7: "?"}))
         ask = f"{say('damaged.sure', name=name_of(TWO[1]))} (y/n)"
         owner.wait(ask)
         owner.expect(f"{say('entry.place', number=7)}: class")
         owner.answer(ask, "perhaps")
         owner.answer(ask, "n")
-        owner.answer(NUMBERED, f"6 ? 7 {words[6]}")
+        owner.answer(NUMBERED, f"6 ? 7 {TWO[1].split()[6]}")
         owner.expect(say("entry.kept"))
         owner.answer(ask, "y")
         owner.wait(paper_prompt(2))
@@ -285,8 +244,7 @@ def check_passphrases():
         owner.wait(say("next.again"))
         owner.expect(say("check.done.other"))
         owner.expect("the passphrase is most likely mistyped, or the backup has none")
-        if "Every quorum" in owner.emulator.all_seen():
-            raise Failed("with a wrong passphrase, every quorum is said to be right")
+        owner.lacks("Every quorum", "with a wrong passphrase, every quorum is said to be right")
         owner.answer(say("next.again"), "t")
         check_unnoted(owner)
         owner.answer(paper_prompt(6), "")
@@ -300,8 +258,7 @@ def check_passphrases():
             owner.answer(say("next.good"), typed)
             owner.wait(say("next.good"))
             owner.expect(say("screen.answers", answers="e, p"))
-        owner.answer(say("next.good"), "e")
-        owner.end(0)
+        owner.finish(say("next.good"))
 
 
 def check_unnoted(owner):
@@ -312,11 +269,9 @@ def check_unnoted(owner):
         owner.wait(say("next.unnoted"))
         owner.expect(say("check.done.same"))
         owner.expect(say("verdict.all.same", quorums="7 quorums", fingerprint=fingerprint_of(THREE_GROUPS, passphrase)))
-        if "[ok]" in owner.emulator.all_seen():
-            raise Failed("what was compared with nothing is said to be equal to what was noted")
+        owner.lacks("[ok]", "what was compared with nothing is said to be equal to what was noted")
         owner.expect(say("noted.first"))
-        if say("check.done.good") in owner.emulator.all_seen():
-            raise Failed("without a noted fingerprint, the papers are said to have no fault")
+        owner.lacks(say("check.done.good"), "without a noted fingerprint, the papers are said to have no fault")
         owner.answer(say("next.unnoted"), answer)
 
 
@@ -329,8 +284,7 @@ def check_mixed():
         owner.wait(say("next.papers"))
         owner.expect(say("verdict.some", wrong=4, quorums=counted(7, "quorum")))
         owner.expect(say("verdict.suspects.one", names=name_of(forged)))
-        if "Every quorum" in owner.emulator.all_seen():
-            raise Failed("although quorums are wrong, every quorum is said to be right")
+        owner.lacks("Every quorum", "although quorums are wrong, every quorum is said to be right")
         owner.answer(say("next.papers"), "p")
         owner.answer(paper_prompt(6), f"{SIGN}{name_of(forged)}")
         owner.answer(paper_prompt(5), f"{SIGN}3.3")
@@ -349,16 +303,13 @@ def check_recover():
         owner.wait(say("more.papers"))
         owner.expect(say("recover.too_few"))
         owner.answer(say("more.papers"), "")
-        owner.type_paper(paper_prompt(2), changed(THREE_GROUPS[1], value=bytes(16)))
-        owner.type_paper(paper_prompt(3), THREE_GROUPS[3])
-        owner.reply(paper_prompt(4), "")
+        owner.collect([changed(THREE_GROUPS[1], value=bytes(16)), THREE_GROUPS[3]], 2)
         owner.passphrase(PASSPHRASE, FINGERPRINT)
         owner.wait(say("next.papers"))
         owner.expect(say("refused.51", first=0))
         owner.answer(say("next.papers"), "p")
         owner.answer(paper_prompt(4), f"{SIGN}{name_of(THREE_GROUPS[1])}")
-        owner.type_paper(paper_prompt(3), THREE_GROUPS[1])
-        owner.reply(paper_prompt(4), "")
+        owner.collect([THREE_GROUPS[1]], 3)
         owner.passphrase("TREZER", FINGERPRINT)
         owner.wait(say("next.again"))
         owner.expect(say("recover.done.other"))
@@ -368,8 +319,7 @@ def check_recover():
         owner.wait(say("next.unnoted"))
         owner.expect(FINGERPRINT)
         owner.expect(say("recover.done.unnoted"))
-        owner.answer(say("next.unnoted"), "e")
-        owner.end(0)
+        owner.finish(say("next.unnoted"))
 
 
 CHECKS = [
@@ -386,8 +336,4 @@ CHECKS = [
     check_mixed,
     check_recover,
 ]
-
-
-def check(see):
-    for one in CHECKS:
-        one()
+check = in_turn(CHECKS)

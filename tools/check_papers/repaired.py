@@ -1,9 +1,11 @@
 """Papers of which words were found and not read: how they are shown, which of several papers is blamed, and what a drill shows of them."""
-from astray import PLAN, silent, swapped, with_words
+from astray import PLAN
 from hands import say
-from refusals import NUMBERED, changed, end_by_keys, started, word_prompt
-from slips import papers_of, sure
-from tasks import FINGERPRINT, PASSPHRASE, SIGN, SOUND_PAPER, THREE_GROUPS, fingerprint_of, paper_prompt
+from refusals import NUMBERED, word_prompt
+from slips import sure, write_anew
+from tasks import SIGN, end_by_keys, in_turn, paper_prompt, started
+
+from samples import FINGERPRINT, PASSPHRASE, SOUND_PAPER, THREE_GROUPS, changed, fingerprint_of, papers_of, swapped, with_words
 
 
 def check_refused_repaired():
@@ -14,7 +16,7 @@ def check_refused_repaired():
         owner.answer(sure("0.0"), "y")
         owner.wait(paper_prompt(2))
         owner.expect("Most likely it is wrong, since words of it were found and not read. It is left out.")
-        silent(owner, "To take a paper out again")
+        owner.lacks("To take a paper out again")
         owner.answer(paper_prompt(2), with_words(THREE_GROUPS[0], {6: "?"}))
         owner.answer(sure("0.0"), "y")
         owner.answer(paper_prompt(3), with_words(changed(THREE_GROUPS[0], value=bytes(16)), {6: "?"}))
@@ -38,9 +40,8 @@ def check_read_later():
         owner.passphrase("", fingerprint_of(papers, ""))
         owner.wait(say("next.good"))
         owner.expect(say("check.done.good"))
-        silent(owner, "Write it anew")
-        owner.answer(say("next.good"), "e")
-        owner.end(0)
+        owner.lacks("Write it anew")
+        owner.finish(say("next.good"))
 
 
 def check_miswritten():
@@ -70,7 +71,7 @@ def check_miswritten():
         owner.wait(say("next.good"))
         owner.expect(say("check.done.damaged"))
         owner.expect("The papers 0.3, 0.4, 0.0 can't be read in full, or are miswritten.")
-        silent(owner, say("check.done.good"))
+        owner.lacks(say("check.done.good"))
         end_by_keys(owner)
 
 
@@ -85,8 +86,7 @@ def check_impossible():
         owner.expect(told)
         owner.answer(say("damaged.menu.none"), "c")
         owner.answer(NUMBERED, SOUND_PAPER)
-        owner.answer(say("damaged.menu"), "e")
-        owner.end(0)
+        owner.finish(say("damaged.menu"))
     with started("check") as owner:
         owner.answer(paper_prompt(1), marks)
         owner.wait(NUMBERED)
@@ -113,38 +113,28 @@ def check_repaired():
         owner.type_paper(paper_prompt(2), changed(THREE_GROUPS[1], exponent=3))
         owner.wait(paper_prompt(2))
         owner.expect("Most likely paper 0.0 is wrong, of which words were found and not read.")
-        silent(owner, "is of another backup, or forged")
-        for number, one in enumerate(THREE_GROUPS[1:4], 2):
-            owner.type_paper(paper_prompt(number), one)
-        owner.answer(paper_prompt(5), "")
+        owner.lacks("is of another backup, or forged")
+        owner.collect(THREE_GROUPS[1:4], 2)
         owner.passphrase(PASSPHRASE, FINGERPRINT)
         owner.wait(say("next.papers"))
         owner.expect(say("damaged.drill"))
         owner.expect(say("damaged.suspect.one", names="0.0"))
         owner.expect(say("damaged.keep"))
-        owner.answer(say("next.papers"), "e")
-        owner.end(0, "closed.repaired")
+        owner.finish(say("next.papers"), "closed.repaired")
 
 
 def check_untried():
     """A repaired paper that is in no quorum: nothing says that it's right, and the damaged one is to be kept."""
     papers = papers_of("1/2of3,2of3")
     with started("repair") as owner:
-        owner.answer(say("damaged.ask"), with_words(papers[3], {6: "?"}))
-        owner.answer(say("damaged.menu"), "w")
-        owner.answer(sure("1.0"), "y")
-        owner.answer(say("new.write"), "")
-        owner.type_paper(say("back.ask", name="1.0"), papers[3])
-        for number, line in enumerate(papers[:2], 2):
-            owner.type_paper(paper_prompt(number), line)
-        owner.answer(paper_prompt(4), "")
+        write_anew(owner, papers[3])
+        owner.collect(papers[:2], 2)
         owner.passphrase("", fingerprint_of(papers[:2], ""))
         owner.wait(say("next.good"))
         owner.expect(say("check.done.left_out"))
         owner.expect(say("damaged.keep"))
-        silent(owner, "is right: the drill gave your secret with it")
-        owner.answer(say("next.good"), "e")
-        owner.end(0, "closed.repaired")
+        owner.lacks("is right: the drill gave your secret with it")
+        owner.finish(say("next.good"), "closed.repaired")
 
 
 def check_taken_out():
@@ -152,11 +142,7 @@ def check_taken_out():
     it is typed once more, it does."""
     papers = papers_of("2of3")
     with started("repair") as owner:
-        owner.answer(say("damaged.ask"), with_words(papers[0], {6: "?"}))
-        owner.answer(say("damaged.menu"), "w")
-        owner.answer(sure("0.0"), "y")
-        owner.answer(say("new.write"), "")
-        owner.type_paper(say("back.ask", name="0.0"), papers[0])
+        write_anew(owner, papers[0])
         owner.answer(paper_prompt(2), f"{SIGN}0.0")
         owner.collect(papers[1:])
         owner.passphrase("", fingerprint_of(papers, ""))
@@ -169,8 +155,7 @@ def check_taken_out():
         owner.passphrase("", fingerprint_of(papers, ""))
         owner.wait(say("next.good"))
         owner.expect(say("damaged.right.one", names="0.0"))
-        owner.answer(say("next.good"), "e")
-        owner.end(0, "closed")
+        owner.finish(say("next.good"), "closed")
 
 
 CHECKS = [
@@ -182,8 +167,4 @@ CHECKS = [
     check_untried,
     check_taken_out,
 ]
-
-
-def check(see):
-    for one in CHECKS:
-        one()
+check = in_turn(CHECKS)

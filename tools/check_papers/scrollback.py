@@ -5,10 +5,13 @@ import shlex
 import shutil
 import subprocess
 import tempfile
-import time
 
 from hands import PATIENCE, PROGRAM, Failed, environment, say
-from tasks import SECRET, THREE_GROUPS, paper_prompt, short
+from tasks import paper_prompt, short
+
+from samples import SECRET, THREE_GROUPS
+
+from tool import waited
 
 
 class Terminal:
@@ -30,9 +33,7 @@ class Terminal:
     def __exit__(self, *_):
         """Ends tmux, and waits until bash has ended: it writes its history at its end."""
         subprocess.run([*self.tmux, "kill-server"], capture_output=True)
-        deadline = time.monotonic() + PATIENCE
-        while self.runs() and time.monotonic() < deadline:
-            time.sleep(0.02)
+        waited(lambda: not self.runs(), PATIENCE)
 
     def runs(self):
         """Whether bash runs. One that has ended may still be listed, with the state Z."""
@@ -53,11 +54,9 @@ class Terminal:
 
     def wait(self, text):
         """Waits until the screen ends with a text."""
-        wanted, deadline = " ".join(text.split()), time.monotonic() + PATIENCE
-        while not " ".join(self.shown().split()).endswith(wanted):
-            if time.monotonic() > deadline:
-                raise Failed(f"tmux doesn't show {wanted!r} at its end, but {self.shown()!r}")
-            time.sleep(0.02)
+        wanted = " ".join(text.split())
+        if not waited(lambda: " ".join(self.shown().split()).endswith(wanted), PATIENCE):
+            raise Failed(f"tmux doesn't show {wanted!r} at its end, but {self.shown()!r}")
 
     def answer(self, prompt, text):
         self.wait(prompt)

@@ -1,9 +1,9 @@
 """What an owner forgets, mistypes or writes down wrongly, and what the program says and keeps then."""
 from hands import Failed, counted, say
-from refusals import NUMBERED, back_prompt, end_by_keys, started
-from tasks import FINGERPRINT, PASSPHRASE, SIGN, THREE_GROUPS, name_of, paper_prompt, short
+from refusals import NUMBERED, back_prompt
+from tasks import SIGN, end_by_keys, in_turn, paper_prompt, short, started
 
-import plain
+from samples import FINGERPRINT, PASSPHRASE, THREE_GROUPS, name_of, papers_of, swappable, swapped, with_words
 from shamir.papers.marks import said_count
 
 
@@ -13,9 +13,17 @@ def sure(name):
 
 def type_damaged(owner, number, line):
     """Types a paper of which one word can't be read, and takes the word that is found."""
-    words = short(line).split()
-    owner.answer(paper_prompt(number), " ".join([*words[:6], "?", *words[7:]]))
+    owner.answer(paper_prompt(number), with_words(short(line), {7: "?"}))
     owner.answer(sure(name_of(line)), "y")
+
+
+def write_anew(owner, line):
+    """Reads a paper of which one word can't be read, writes it anew, and types it back."""
+    owner.answer(say("damaged.ask"), with_words(line, {6: "?"}))
+    owner.answer(say("damaged.menu"), "w")
+    owner.answer(sure(name_of(line)), "y")
+    owner.answer(say("new.write"), "")
+    owner.type_paper(say("back.ask", name=name_of(line)), line)
 
 
 def check_damaged():
@@ -45,28 +53,13 @@ def check_damaged():
         owner.expect(say("damaged.anew.one", names=names[4]))
         end_by_keys(owner)
     with started("repair") as owner:
-        words = THREE_GROUPS[0].split()
-        owner.answer(say("damaged.ask"), " ".join(["?" if at == 7 else word for at, word in enumerate(words)]))
-        owner.answer(say("damaged.menu"), "w")
-        owner.answer(sure(names[0]), "y")
-        owner.answer(say("new.write"), "")
-        owner.type_paper(say("back.ask", name=names[0]), THREE_GROUPS[0])
-        for number, line in enumerate(THREE_GROUPS[1:4], 2):
-            owner.type_paper(paper_prompt(number), line)
-        owner.answer(paper_prompt(5), "")
+        write_anew(owner, THREE_GROUPS[0])
+        owner.collect(THREE_GROUPS[1:4], 2)
         owner.passphrase(PASSPHRASE, FINGERPRINT)
         owner.wait(say("next.good"))
         owner.expect(say("damaged.right.one", names=names[0]))
-        if "can't be read in full" in owner.emulator.all_seen():
-            raise Failed("a paper that was written anew is still to be written anew")
+        owner.lacks("can't be read in full", "a paper that was written anew is still to be written anew")
         end_by_keys(owner)
-
-
-def papers_of(plan):
-    """Returns the papers of a backup without a passphrase, by the plain reading."""
-    plan = plain.parse_plan(plan)
-    shares = plain.create(plan, bytes(range(16)), b"", 0, False, bytes(at % 256 for at in range(plain.random_needed(plan, 16))))
-    return [plain.mnemonic(share) for share in shares]
 
 
 def check_number():
@@ -126,21 +119,11 @@ def check_twice():
         end_by_keys(owner)
 
 
-def made(owner):
-    """Makes a backup of one paper, up to its words, and returns them."""
-    owner.settle()
-    owner.answer(say("new.secret"), "")
-    owner.answer(say("new.passphrase"), "")
-    owner.answer(f"{say('new.passphrase.none')} {say('screen.yes.back')}", "y")
-    owner.wait(say("new.write"))
-    return owner.words().split()
-
-
 def see_again(owner, prompt, words):
     """Lets a paper be shown again from a question, which then comes again."""
     owner.answer(prompt, "")
     owner.wait(say("new.write"))
-    if owner.words().split() != words:
+    if owner.words() != words:
         raise Failed("another paper is shown again")
     owner.answer(say("new.write"), "")
     owner.wait(prompt)
@@ -151,33 +134,32 @@ def check_written_wrongly():
     typed while a paper is shown clear nothing."""
     back, numbered = say("back.ask", name="0.0"), say("entry.numbered.back", sign=SIGN)
     with started("new", "1of1") as owner:
-        words = made(owner)
-        owner.answer(say("new.write"), " ".join(words))
+        owner.settle()
+        line = owner.draw()
+        owner.answer(say("new.write"), line)
         owner.wait(say("new.write"))
         owner.expect(say("new.write.alone"))
-        if owner.words().split() != words:
+        if owner.words() != line:
             raise Failed("words that are typed too early clear the paper")
         owner.answer(say("new.write"), "")
         owner.answer(say("screen.next"), "")
-        at = next(it for it in range(2, 19) if words[it] != words[it + 1])
-        wrong = [*words[:at], words[at + 1], words[at], *words[at + 2 :]]
-        owner.answer(back, " ".join(wrong))
+        at, words = swappable(line), line.split()
+        owner.answer(back, swapped(line, at))
         owner.wait(numbered)
         owner.expect(say("back.refused.13"))
-        see_again(owner, numbered, words)
-        owner.answer(numbered, f"{at + 1} {words[at]}")
-        last = back_prompt(at + 2)
+        see_again(owner, numbered, line)
+        owner.answer(numbered, f"{at} {words[at - 1]}")
+        last = back_prompt(at + 1)
         owner.wait(last)
-        owner.expect(say("back.refused.18", first=at + 2))
-        see_again(owner, last, words)
+        owner.expect(say("back.refused.18", first=at + 1))
+        see_again(owner, last, line)
         owner.answer(last, "emrald")
         owner.wait(last)
         owner.expect("isn't in the word list (emerald")
-        see_again(owner, last, words)
-        owner.answer(last, words[at + 1])
+        see_again(owner, last, line)
+        owner.answer(last, words[at])
         owner.wait(say("noted.done"))
-        if "type ?" in owner.emulator.all_seen():
-            raise Failed("a question mark is offered where none is taken")
+        owner.lacks("type ?", "a question mark is offered where none is taken")
         end_by_keys(owner)
 
 
@@ -217,8 +199,7 @@ def check_plans():
         owner.answer(plan, "1of2,1of1")
         owner.wait(plan)
         owner.expect(say("refused.31"))
-        if "2/1of2" in owner.emulator.all_seen():
-            raise Failed("a plan is named that the program refuses")
+        owner.lacks("2/1of2", "a plan is named that the program refuses")
         for typed, texts in [
             ("2 / 3-of-5, 1OF1", [say("plan.lost.one", names="1.0"), say("plan.found.group.one", groups="1")]),
             ("2of2", [say("plan.lost.any")]),
@@ -236,8 +217,7 @@ def check_plans():
         owner.forget()
         owner.answer(plan, "2of3")
         owner.wait(say("new.wallet"))
-        if "is lost, the secret is lost" in owner.emulator.all_seen():
-            raise Failed("one paper of 2of3 is said to be needed")
+        owner.lacks("is lost, the secret is lost", "one paper of 2of3 is said to be needed")
         end_by_keys(owner)
 
 
@@ -270,8 +250,4 @@ def check_fingerprint():
 
 
 CHECKS = [check_fingerprint, check_damaged, check_number, check_twice, check_written_wrongly, check_sign, check_left_out, check_plans, check_spaces]
-
-
-def check(see):
-    for one in CHECKS:
-        one()
+check = in_turn(CHECKS)

@@ -1,10 +1,11 @@
 """What an owner can answer in the tasks 'new', 'replace' and 'repair', the ways back, and answers where the screen is full."""
 from hands import MORE, Failed, say
-from refusals import NUMBERED, back_prompt, end_by_keys, started, word_prompt
-from tasks import FINGERPRINT, PASSPHRASE, SECRET, SIGN, SOUND_PAPER, THREE_GROUPS, Owner, paper_prompt
+from refusals import NUMBERED, back_prompt, word_prompt
+from tasks import SIGN, end_by_keys, in_turn, paper_prompt, started
 
 import plain
 import shamir
+from samples import FINGERPRINT, PASSPHRASE, SECRET, SOUND_PAPER, THREE_GROUPS, papers_of, with_words
 
 MENU = say("home.choose")
 
@@ -65,8 +66,7 @@ def check_new():
         # The drill said it too, on the screen before.
         owner.forget()
         owner.expect(say("quorum.what"))
-        owner.answer(say("screen.end"), "e")
-        owner.end(0)
+        owner.finish(say("screen.end"))
         fields = plain.parse(papers[0].encode())
         if (fields["extendable"], fields["exponent"]) != (0, 0):
             raise Failed("the flag and the exponent that were asked for aren't in the papers")
@@ -88,8 +88,7 @@ def prove(owner):
         owner.expect(say(key))
         owner.expect(say("proof.passphrase.then"))
         owner.answer(say("make.failed.again"), "t")
-    if say("make.done") in owner.emulator.all_seen():
-        raise Failed("the backup is said to be made before the passphrase is right")
+    owner.lacks(say("make.done"), "the backup is said to be made before the passphrase is right")
     owner.answer(say("passphrase.ask"), PASSPHRASE)
 
 
@@ -149,7 +148,7 @@ def type_back(owner, papers):
     owner.answer(first, SOUND_PAPER)
     owner.wait(first)
     owner.expect(say("back.foreign", name="0.0", typed="0.0"))
-    owner.answer(first, " ".join(["?", *papers[0].split()[1:]]))
+    owner.answer(first, with_words(papers[0], {1: "?"}))
     owner.answer(back_prompt(1), SIGN)
     owner.expect(say("entry.mark.none", number=1, word="?"))
     owner.answer(first, "")
@@ -163,8 +162,7 @@ def type_back(owner, papers):
 
 def check_replace():
     """A paper that may be in other hands, plans that don't fit, and papers that aren't determined."""
-    with Owner() as owner:
-        owner.prepare()
+    with started() as owner:
         owner.answer(MENU, "replace")
         owner.wait(say("replace.how"))
         owner.expect("first try 'Read a damaged paper' (repair)")
@@ -173,24 +171,21 @@ def check_replace():
         owner.answer(say("replace.how"), "2")
         owner.wait(say("replace.new.choose"))
         owner.expect(say("replace.new.move"))
-        owner.answer(say("replace.new.choose"), "e")
-        owner.end(0)
+        owner.finish(say("replace.new.choose"))
     with started("replace") as owner:
         owner.answer(say("replace.how"), "1")
         owner.collect(THREE_GROUPS[:1])
         owner.wait(say("more.papers"))
         owner.expect(say("replace.none_yet"))
         owner.answer(say("more.papers"), "")
-        owner.type_paper(paper_prompt(2), THREE_GROUPS[1])
-        owner.reply(paper_prompt(3), "")
+        owner.collect([THREE_GROUPS[1]], 2)
         choose = say("replace.choose")
         owner.wait(choose)
         for name, key in [("0.2", "after"), ("1.0", "of_group"), ("2.0", "of_group")]:
             owner.expect(f"{name} {say(f'which.{key}', group=name[0])}")
         ask_names(owner)
         owner.answer(say("which.ask.needed", group=1), "b")
-        owner.type_paper(paper_prompt(3), THREE_GROUPS[3])
-        owner.answer(paper_prompt(4), "")
+        owner.collect([THREE_GROUPS[3]], 3)
         owner.answer(choose, "2.0")
         owner.answer(say("which.ask.needed", group=2), "1")
         owner.wait(say("new.write"))
@@ -238,11 +233,10 @@ def check_repair():
     menu = say("damaged.menu")
     with started("repair") as owner:
         ask = say("damaged.ask")
-        words = SOUND_PAPER.split()
-        owner.answer(ask, " ".join(["? ? ? ?", *words[4:]]))
+        owner.answer(ask, with_words(SOUND_PAPER, {1: "?", 2: "?", 3: "?", 4: "?"}))
         owner.answer(NUMBERED, SIGN)
         owner.expect(say("damaged.refused.19", first=4))
-        owner.answer(ask, " ".join([*words[:2], "acad?", "acax?", *words[4:]]))
+        owner.answer(ask, with_words(SOUND_PAPER, {3: "acad?", 4: "acax?"}))
         owner.answer(word_prompt(4), "?")
         owner.expect(say("entry.mark", number=4, word="acax?"))
         owner.wait(menu)
@@ -255,7 +249,7 @@ def check_repair():
         owner.wait(menu)
         owner.expect(say("damaged.limits", case=say("damaged.limits.3")))
         owner.answer(menu, "t")
-        owner.answer(ask, " ".join([words[0], "?", *words[2:]]))
+        owner.answer(ask, with_words(SOUND_PAPER, {2: "?"}))
         two = say("damaged.menu.two")
         owner.wait(two, menu)
         owner.type("e\n")
@@ -267,17 +261,12 @@ def check_repair():
         owner.answer(word_prompt(5), "agen")
         owner.wait(menu)
         owner.expect(say("damaged.whole"))
-        owner.answer(menu, "e")
-        owner.end(0)
-
-
+        owner.finish(menu)
 
 
 def check_wrong_plan():
     """What a wrong answer does, if no paper of a group is here: with 1, a paper is written that isn't of the backup, and with more, none."""
-    plan = plain.parse_plan("2/1of1,2of3,1of1")
-    shares = plain.create(plan, bytes(range(16)), b"", 0, False, bytes(range(plain.random_needed(plan, 16))))
-    papers = [plain.mnemonic(share) for share in shares]
+    papers = papers_of("2/1of1,2of3,1of1")
     for needed in ("1", "2"):
         with started("replace") as owner:
             owner.answer(say("replace.how"), "1")
@@ -297,8 +286,7 @@ def check_wrong_plan():
 def check_back():
     """From each of the first questions, the owner goes back to the one before, and at last to the tasks."""
     secret, plan, wallet = say("new.secret"), say("new.plan.choose"), say("new.wallet")
-    with Owner() as owner:
-        owner.prepare()
+    with started() as owner:
         owner.answer(MENU, "1")
         owner.answer(plan, "b")
         owner.answer(MENU, "new")
@@ -356,8 +344,7 @@ def check_spaced():
 def check_full():
     """What is typed where the screen is full is the answer to the question that follows. An arrow is no answer."""
     for keys, rows, columns in [(["2\n"], 20, 80), (["\x1b[B", "2", "\n"], 20, 80), (["2", "\n", "\n"], 16, 40), (["\n", "3of5\n"], 16, 40)]:
-        with Owner("new", rows=rows, columns=columns) as owner:
-            owner.prepare()
+        with started("new", rows=rows, columns=columns) as owner:
             owner.wait_full()
             for at, key in enumerate(keys):
                 owner.type(key)
@@ -372,8 +359,4 @@ def check_full():
 
 
 CHECKS = [check_new, check_replace, check_wrong_plan, check_repair, check_back, check_spaced, check_full]
-
-
-def check(see):
-    for one in CHECKS:
-        one()
+check = in_turn(CHECKS)

@@ -1,43 +1,18 @@
-"""Each task from its start to its end, as an owner goes through it. The values that must be shown are from outside: from examples/,
-from tools/plain.py, or from ./shamir."""
+"""Each task from its start to its end, as an owner goes through it. The values that must be shown are from outside (tools/samples.py)."""
+import contextlib
 import re
 
-from hands import BINDING, ROOT, Failed, Session, counted, say
+from hands import Failed, Session, counted, say
 
-import plain
+from samples import PASSPHRASE, SOUND_PAPER, check_backups, check_papers_of, fingerprint_of, name_of, names_of, said_kind, secret_of, with_words
 from shamir.papers.screen import BACK
 
-PASSPHRASE = "TREZOR"
-
-
-def example(name):
-    return [line for line in (ROOT / "examples" / name).read_text().splitlines() if line and not line.startswith("#")]
-
-
-THREE_GROUPS = example("three-groups.txt")
-SOUND_PAPER = example("one-of-one.txt")[0]
-SECRET, FINGERPRINT = "bb54aac4b89dc868ba37d9cc21b2cece", "df41d8fe"
 SIGN = "-"
-
-
-def fingerprint_of(lines, passphrase):
-    """Returns the fingerprint of the secret of mnemonics, by the plain reading."""
-    return plain.run_recover(passphrase.encode(), "".join(line + "\n" for line in lines).encode(), True)[0].strip()
-
-
-def secret_of(lines, passphrase):
-    return plain.run_recover(passphrase.encode(), "".join(line + "\n" for line in lines).encode())[0].strip()
 
 
 def short(line):
     """Returns the first four letters of each word."""
     return " ".join(word[:4] for word in line.split())
-
-
-def name_of(line):
-    """Returns the name of a paper, by the plain reading."""
-    fields = plain.run_show(line.encode() + b"\n")[0].split()
-    return f"{fields[fields.index('group') + 1]}.{fields[fields.index('member') + 1]}"
 
 
 class Owner(Session):
@@ -66,6 +41,17 @@ class Owner(Session):
             self.reply(say("new.plan.sure"), "u")
         self.reply(say("new.wallet"), wallet)
         self.reply(say("new.words"), "")
+
+    def draw(self, passphrase=""):
+        """Takes a new secret, and this passphrase. Returns the words of the first paper."""
+        self.answer(say("new.secret"), "")
+        self.answer(say("new.passphrase"), passphrase)
+        if passphrase:
+            self.answer(say("new.passphrase.again"), passphrase)
+        else:
+            self.answer(f"{say('new.passphrase.none')} {say('screen.yes.back')}", "y")
+        self.wait(self.question("new.write"))
+        return self.words()
 
     def prove(self, noted, passphrase):
         """Types what was noted, as the program asks before it says that a backup is made."""
@@ -102,11 +88,11 @@ class Owner(Session):
         if passphrase and not noted:
             self.hidden(say("new.passphrase.again"), passphrase)
 
-    def collect(self, lines):
-        """Types papers, and ends their typing."""
-        for number, line in enumerate(lines, 1):
+    def collect(self, lines, first=1):
+        """Types papers, of which the first has this number, and ends their typing."""
+        for number, line in enumerate(lines, first):
             self.type_paper(paper_prompt(number), line)
-        self.reply(paper_prompt(len(lines) + 1), "")
+        self.reply(paper_prompt(first + len(lines)), "")
 
     def written(self):
         """Reads the papers that are shown to be written down, until they are to be typed back."""
@@ -117,17 +103,41 @@ class Owner(Session):
             self.reply(write, "")
         return papers
 
+    def type_back(self, papers):
+        """Types all papers back that were shown."""
+        self.reply(say("screen.next"), "")
+        for line in papers:
+            self.type_paper(say("back.ask", name=name_of(line)), line)
+
+    def finish(self, prompt, said=""):
+        """Ends at a question that offers to end. `said` is the key of what the program must say then, if it matters."""
+        self.reply(prompt, "e")
+        self.end(0, said)
+
     def within(self, most):
         """Checks that no more was to be typed than an owner was promised: five keys a word, and so many answers."""
         if self.answers > most or self.keys > 5 * self.count:
             raise Failed(f"{self.answers} answers and {self.keys} keys for {self.count} words: {self.prompts}")
 
 
+@contextlib.contextmanager
+def started(*words, **how):
+    """Starts the program with these words, and goes on to its first question."""
+    with Owner(*words, **how) as owner:
+        owner.prepare()
+        yield owner
+
+
+def end_by_keys(owner):
+    owner.type("\x03")
+    owner.end(130)
+
+
 def paper_prompt(number):
     return say("entry.paper.first") if number == 1 else say("entry.paper", number=number)
 
 
-def make(owner, passphrase, names, secret=None, known=""):
+def make(owner, passphrase, plan, secret=None, known=""):
     """Goes through the task 'new' from the secret on. `known` is the fingerprint that was noted of the owner's own secret. Returns the
     papers and the fingerprint."""
     owner.settle()
@@ -144,11 +154,8 @@ def make(owner, passphrase, names, secret=None, known=""):
     else:
         owner.reply(f"{say('new.passphrase.none')} {say('screen.yes' if secret else 'screen.yes.back')}", "y")
     papers = owner.written()
-    if [name_of(line) for line in papers] != names:
-        raise Failed(f"the papers {names} were expected, and {[name_of(line) for line in papers]} are shown")
-    owner.reply(say("screen.next"), "")
-    for name, line in zip(names, papers):
-        owner.type_paper(say("back.ask", name=name), line)
+    check_papers_of(papers, plan, 1, 1, 33 if secret and len(secret) > 32 else 20)
+    owner.type_back(papers)
     noted = say("noted.done.own" if secret else "noted.done")
     owner.wait(noted)
     owner.expect(say("noted.apart" if passphrase else "noted.papers"))
@@ -162,34 +169,29 @@ def make(owner, passphrase, names, secret=None, known=""):
     else:
         owner.prove(found, passphrase)
     owner.expect(say("make.done"))
-    owner.reply(say("screen.end"), "e")
-    owner.end(0)
+    owner.finish(say("screen.end"))
     return papers, found
 
 
 def check_new(see):
-    with Owner("new", "2/3of5,1of1") as owner:
-        owner.prepare()
-        papers, noted = make(owner, PASSPHRASE, ["0.0", "0.1", "0.2", "0.3", "0.4", "1.0"])
+    with started("new", "2/3of5,1of1") as owner:
+        papers, noted = make(owner, PASSPHRASE, "2/3of5,1of1")
         owner.within(15)
     return papers, noted
 
 
 def check_check(papers, noted):
-    with Owner("check") as owner:
-        owner.prepare()
+    with started("check") as owner:
         owner.collect(papers)
         owner.passphrase(PASSPHRASE, noted)
         owner.wait(say("next.good"))
         owner.expect(say("verdict.all.noted", quorums="10 quorums", fingerprint=noted))
-        owner.reply(say("next.good"), "e")
-        owner.end(0)
+        owner.finish(say("next.good"))
         owner.within(12)
 
 
 def check_recover(papers, noted):
-    with Owner("recover") as owner:
-        owner.prepare()
+    with started("recover") as owner:
         owner.collect([papers[1], papers[5], papers[3], papers[4]])
         owner.passphrase(PASSPHRASE, noted)
         owner.reply(f"{say('recover.show')} (y/n)", "y")
@@ -201,15 +203,13 @@ def check_recover(papers, noted):
         owner.reply(owner.question("recover.clear"), "")
         owner.wait(say("next.good"))
         owner.expect(say("recover.next"))
-        owner.reply(say("next.good"), "e")
-        owner.end(0)
+        owner.finish(say("next.good"))
         owner.within(12)
 
 
 def check_replace(papers, noted):
     lost, rest = papers[1], [papers[at] for at in (0, 2, 4, 5)]
-    with Owner("replace") as owner:
-        owner.prepare()
+    with started("replace") as owner:
         owner.reply(say("replace.how"), "1")
         owner.collect(rest)
         owner.wait(say("replace.choose"))
@@ -226,13 +226,8 @@ def check_replace(papers, noted):
         owner.wait(say("next.good"))
         owner.expect(say("verdict.all.noted", quorums="4 quorums", fingerprint=noted))
         owner.expect(f"[ok] {say('replace.right.one', names='0.1')}")
-        owner.reply(say("next.good"), "e")
-        owner.end(0)
+        owner.finish(say("next.good"))
         owner.within(12)
-
-
-def names_of(plan):
-    return [f"{group}.{member}" for group, (_, members) in enumerate(plain.parse_plan(plan)[1]) for member in range(members)]
 
 
 def change(owner, plan, wallet=""):
@@ -243,13 +238,11 @@ def change(owner, plan, wallet=""):
         owner.reply(say("new.plan.sure"), "u")
     if wallet:
         owner.reply(say("new.wallet"), wallet)
-    papers, names = owner.written(), names_of(plan)
+    papers = owner.written()
     owner.expect(say("change.mark"))
-    if [name_of(line) for line in papers] != names:
-        raise Failed(f"the papers {names} were expected, and {[name_of(line) for line in papers]} are shown")
-    owner.reply(say("screen.next"), "")
-    for name, line in zip(names, papers):
-        owner.type_paper(say("back.ask", name=name), line)
+    if list(map(name_of, papers)) != names_of(plan):
+        raise Failed(f"the papers {names_of(plan)} were expected, and {list(map(name_of, papers))} are shown")
+    owner.type_back(papers)
     return papers
 
 
@@ -257,8 +250,7 @@ def check_change(papers, noted):
     """The papers of an extendable backup give others, by another plan. For each passphrase, these give the secret that the old ones give,
     which never shows."""
     old = [papers[at] for at in (1, 2, 4, 5)]
-    with Owner("change") as owner:
-        owner.prepare()
+    with started("change") as owner:
         owner.collect(old)
         new = change(owner, "2of3")
         owner.passphrase(PASSPHRASE, noted)
@@ -267,32 +259,23 @@ def check_change(papers, noted):
         owner.expect(f"[ok] {say('verdict.all.noted.new', quorums='3 quorums', fingerprint=noted)} {say('change.same')}")
         owner.expect(say("change.old"))
         owner.expect(say("change.mixed"))
-        owner.reply(say("screen.end"), "e")
-        owner.end(0)
+        owner.finish(say("screen.end"))
         owner.within(13)
-        expect_same(owner, old, new[:2], [PASSPHRASE, "", "another"])
-        expect_same(owner, old, new[1:], [PASSPHRASE, "", "another"])
+        check_changed(owner, old, new, "2of3", 1)
 
 
-def expect_same(owner, old, new, passphrases):
-    """Checks that old and new papers give the same secrets, that the backups have other identifiers, and that no secret was shown."""
-    for passphrase in passphrases:
-        secret = secret_of(old, passphrase)
-        if secret_of(new, passphrase) != secret:
-            raise Failed(f"with the passphrase {passphrase!r}, the new papers give another secret than the old ones")
-        if secret in "".join(owner.raw.decode().split()):
+def check_changed(owner, old, new, plan, extendable, passphrase=PASSPHRASE):
+    """Checks new papers beside the old ones, and that no secret was shown."""
+    check_backups(old, new, plan, extendable, passphrase)
+    for tried in (passphrase, "", "another"):
+        if secret_of(old, tried) in "".join(owner.raw.decode().split()):
             raise Failed("the secret is shown")
-    before, after = (plain.parse(lines[0].encode()) for lines in (old, new))
-    if before["id"] == after["id"] or before["exponent"] != after["exponent"]:
-        raise Failed("the new papers have the old identifier, or another exponent")
 
 
 def check_repair(papers, noted):
     words = papers[0].split()
-    marks = [*words[:3], "?", *words[4:9], words[9][:2] + "?", *words[10:]]
-    with Owner("repair") as owner:
-        owner.prepare()
-        owner.answer(say("damaged.ask"), " ".join(marks))
+    with started("repair") as owner:
+        owner.answer(say("damaged.ask"), with_words(papers[0], {4: "?", 10: words[9][:2] + "?"}))
         owner.wait(say("damaged.menu"))
         owner.expect(say("damaged.one", name="0.0"))
         for number in (4, 10):
@@ -301,8 +284,7 @@ def check_repair(papers, noted):
         owner.reply(f"{say('damaged.sure', name='0.0')} (y/n)", "y")
         owner.reply(owner.question("new.write"), "")
         owner.type_paper(say("back.ask", name="0.0"), papers[0])
-        owner.type_paper(paper_prompt(2), papers[1])
-        owner.reply(paper_prompt(3), "")
+        owner.collect([papers[1]], 2)
         owner.reply(say("more.papers"), "e")
         owner.expect(say("damaged.too_few"))
         owner.end(0, "closed.repaired")
@@ -310,30 +292,33 @@ def check_repair(papers, noted):
 
 def check_what(papers, noted):
     """One paper says what it is, by the plain reading, and asks for nothing else. The flag and the other papers that it needs are told."""
-    told = [
-        (papers[0], say("what.others.both", papers="2 papers", group=0, groups=counted(1, "whole"))),
-        (papers[5], say("what.others.groups", groups=counted(1, "whole"))),
-        (SOUND_PAPER, say("what.others.none")),
-    ]
-    with Owner("what") as owner:
-        owner.prepare()
-        for line, others in told:
-            fields = plain.parse(line.encode())
+    with started("what") as owner:
+        for line in (papers[0], papers[5], SOUND_PAPER):
             owner.forget()
             owner.type_paper(say("what.ask"), line)
             owner.wait(say("what.next"))
-            owner.expect(say("what.found", name=name_of(line)))
-            owner.expect(say("what.backup", first=line.split()[0], second=line.split()[1]))
-            owner.expect(others)
-            owner.expect(say("what.flag" if fields["extendable"] else "what.flag.none"))
-            owner.expect(say("what.exponent", exponent=fields["exponent"]))
-            owner.expect(say("what.secret", bytes=len(fields["value"])))
+            for text in (say("what.found", name=name_of(line)), *said_kind(line, say, counted)):
+                owner.expect(text)
             owner.reply(say("what.next"), "b" if line != SOUND_PAPER else "e")
         owner.end(0)
+
+
+def in_turn(checks):
+    """Returns the part that has these checks."""
+
+    def check(_):
+        for one in checks:
+            one()
+
+    return check
+
+
+# What is done with the papers of a new backup, and its fingerprint.
+TASKS = [check_check, check_recover, check_replace, check_change, check_repair, check_what]
 
 
 def check(see):
     """Goes through all tasks with one new backup."""
     papers, noted = check_new(see)
-    for task in (check_check, check_recover, check_replace, check_change, check_repair, check_what):
+    for task in TASKS:
         task(papers, noted)

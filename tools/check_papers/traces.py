@@ -8,9 +8,9 @@ import subprocess
 import tempfile
 
 from hands import PATIENCE, PROGRAM, Failed, environment, habits, say
-from tasks import PASSPHRASE, Owner, change, check_check, check_new, fingerprint_of, make, paper_prompt, secret_of
+from tasks import Owner, change, check_check, check_new, end_by_keys, make, paper_prompt, started
 
-import plain
+from samples import changed, fingerprint_of, secret_of
 
 # A passphrase that nothing else has.
 OWN_PASSPHRASE = "7mQ zebra-crossing 4tV"
@@ -97,11 +97,10 @@ def check_memory():
         if prompt == say("screen.end"):
             seen["memory"] = b"".join(memory_of(session.run.pid))
 
-    with Owner("new", "2of3") as owner:
-        owner.prepare()
+    with started("new", "2of3") as owner:
         habits.at_question = at_question
         try:
-            papers, noted = make(owner, OWN_PASSPHRASE, ["0.0", "0.1", "0.2"])
+            papers, noted = make(owner, OWN_PASSPHRASE, "2of3")
         finally:
             del habits.at_question
     if not seen.get("typed"):
@@ -119,10 +118,9 @@ def check_memory():
 
 def check_memory_of_change(papers, noted, secret):
     """At the last question of 'change', old and new papers are gone, and so is the secret, which papers without the flag are made of."""
-    flagless = [plain.mnemonic({**plain.parse(line.encode()), "extendable": 0}) for line in papers]
+    flagless = [changed(line, extendable=0) for line in papers]
     for old, fingerprint in [(papers, noted), (flagless, fingerprint_of(flagless, OWN_PASSPHRASE))]:
-        with Owner("change") as owner:
-            owner.prepare()
+        with started("change") as owner:
             owner.collect(old[1:])
             if old is flagless:
                 owner.passphrase(OWN_PASSPHRASE, fingerprint)
@@ -134,27 +132,23 @@ def check_memory_of_change(papers, noted, secret):
             left = look_for(owner, {**texts, **of_papers(old[1:]), **{f"new {what}": text for what, text in of_papers(new).items()}})
             if left:
                 raise Failed(f"after the plan was changed, the memory of the program still has {', '.join(left)}")
-            owner.reply(say("screen.end"), "e")
-            owner.end(0)
+            owner.finish(say("screen.end"))
 
 
 def check_memory_of_check(papers, noted, secret):
-    with Owner("check") as owner:
-        owner.prepare()
+    with started("check") as owner:
         owner.collect(papers)
         owner.passphrase(OWN_PASSPHRASE, noted)
         owner.wait(say("next.good"))
         left = look_for(owner, {"the passphrase": OWN_PASSPHRASE.encode(), "the digits of the secret": secret.encode()})
         if left:
             raise Failed(f"after a check, the memory of the program still has {', '.join(left)}")
-        owner.reply(say("next.good"), "e")
-        owner.end(0)
+        owner.finish(say("next.good"))
 
 
 def check_forbidden():
     """No core is written, the memory is locked, and nobody but root may attach."""
-    with Owner("check") as owner:
-        owner.prepare()
+    with started("check") as owner:
         owner.wait(paper_prompt(1))
         process = pathlib.Path(f"/proc/{owner.run.pid}")
         if not re.search(r"Max core file size +0 +0 ", (process / "limits").read_text()):
@@ -163,8 +157,7 @@ def check_forbidden():
         locked = int(re.search(r"VmLck:\s+(\d+)", status)[1])
         if locked == 0 and say("safety.lock") not in owner.emulator.all_seen():
             raise Failed("the memory isn't locked, and the program doesn't say so")
-        owner.type("\x03")
-        owner.end(130)
+        end_by_keys(owner)
 
 
 def check_other_processes():
@@ -172,14 +165,12 @@ def check_other_processes():
     as_nobody = ["setpriv", "--reuid=65534", "--regid=65534", "--clear-groups"]
     if os.geteuid() != 0 or not shutil.which("setpriv") or subprocess.run([*as_nobody, *PROGRAM, "--version"], env=environment(), capture_output=True).returncode:
         return "it isn't tried whether another process of the same user can read the program's memory: that needs root, setpriv, and a folder that all may read"
-    with Owner("check", command=[*as_nobody, *PROGRAM, "check"]) as owner:
-        owner.prepare()
+    with started("check", command=[*as_nobody, *PROGRAM, "check"]) as owner:
         owner.wait(paper_prompt(1))
         told = subprocess.run([*as_nobody, "head", "-c", "1", f"/proc/{owner.run.pid}/environ"], capture_output=True, text=True, env={"LC_ALL": "C", "PATH": os.environ["PATH"]})
         if "Permission denied" not in told.stderr:
             raise Failed(f"another process of the same user reads the program's memory: {told}")
-        owner.type("\x03")
-        owner.end(130)
+        end_by_keys(owner)
     return ""
 
 
@@ -189,13 +180,11 @@ def check_warnings():
         owner.wait(say("safety.go"))
         owner.expect(say("safety.ssh"))
         owner.expect(say("safety.screen"))
-        owner.type("\x03")
-        owner.end(130)
+        end_by_keys(owner)
     with Owner("check", TERM="vt100") as owner:
         owner.wait(say("safety.go"))
         owner.expect(say("safety.kept", kind="vt100"))
-        owner.type("\x03")
-        owner.end(130)
+        end_by_keys(owner)
     if not shutil.which("script"):
         return "script isn't here, so it isn't tried whether the program notices it"
     with tempfile.TemporaryDirectory() as folder:

@@ -17,13 +17,11 @@ The tool says what it leaves out if a program isn't here. It exits with status 1
 """
 import argparse
 import functools
-import os
 import pathlib
 import platform
 import shutil
 import sys
 import tempfile
-from concurrent.futures import ThreadPoolExecutor
 from typing import Callable, List, Optional, Tuple
 
 sys.dont_write_bytecode = True
@@ -31,63 +29,60 @@ sys.path[:0] = [str(pathlib.Path(__file__).resolve().parent), str(pathlib.Path(_
 
 import agreement  # noqa: E402
 import builds  # noqa: E402
+import driver  # noqa: E402
 import install  # noqa: E402
 import sources  # noqa: E402
 import speed  # noqa: E402
 import stack  # noqa: E402
 import timing  # noqa: E402
-from left_out import left_out  # noqa: E402
-
-Task = Tuple[str, Callable[[str], Optional[str]]]
-
-
-def with_programs(what: str, programs: List[str], task: Callable[[str], Optional[str]]) -> List[Task]:
-    """Returns a task, or says that it is left out because a program isn't here."""
-    missing = [it for it in programs if not shutil.which(it)]
-    if missing:
-        left_out(f"{missing[0]} isn't here, so {what} of dist/c isn't checked")
-        return []
-    return [(what, task)]
+from left_out import is_here, left_out  # noqa: E402
+from parts import Part, all_pass, in_folder  # noqa: E402
 
 
-def builds_to_compare(calls: List[str], right: List[str]) -> List[Task]:
-    """Returns a task for each build whose answers are compared with those of the native library."""
+def with_programs(what: str, programs: List[str], check: Callable[[str], Optional[str]]) -> List[Part]:
+    """Returns a part, or says that it is left out because a program isn't here."""
+    are_here = all(is_here(it, f"{what} of dist/c isn't checked") for it in programs)
+    return [Part(what, in_folder(check))] if are_here else []
+
+
+def builds_to_compare(calls: List[str], right: List[str]) -> List[Part]:
+    """Returns a part for each build whose answers are compared with those of the native library."""
     count = len(calls)
-    groups = [
+    groups: List[Tuple[List[builds.Target], int, Callable[..., None]]] = [
         (builds.EMULATED, count, agreement.agreed_with_vectors),
         (builds.SANITIZERS, agreement.SANITIZED, agreement.agreed),
         (builds.THREADS, agreement.THREADED, agreement.agreed_in_threads),
         (builds.NATIVE, count, agreement.agreed),
         (builds.SLOW, agreement.SLOW, agreement.agreed),
     ]
-    tasks: List[Task] = []
+    found: List[Part] = []
     for targets, most, check in groups:
         for target in targets:
             if target.missing():
                 left_out(f"{target.missing()} isn't here, so dist/c isn't compared with libshamir.so: {target.name}")
             else:
-                tasks.append((target.name, functools.partial(check, target, calls[:most], right[:most])))
-    return tasks
+                found.append(Part(target.name, in_folder(functools.partial(check, target, calls[:most], right[:most]))))
+    return found
 
 
-def on_x86_64() -> List[Task]:
-    """Returns a task for each build in which the stack is looked at, or branches are that may depend on secrets."""
+def on_x86_64() -> List[Part]:
+    """Returns a part for each build in which the stack is looked at, or branches are that may depend on secrets."""
     if platform.machine() != "x86_64":
         left_out("this isn't x86-64, so nothing looks for what dist/c leaves on the stack, or for branches of it that depend on secrets")
         return []
     looked = [(target, [target.compiler], stack.is_cleared) for target in stack.TARGETS]
     looked += [(target, [target.compiler], stack.has_room) for target in stack.DEEP]
     looked += [(target, [target.compiler, "valgrind"], timing.is_even) for target in timing.TARGETS]
-    return [task for target, programs, check in looked for task in with_programs(target.name, programs, functools.partial(check, target))]
+    return [part for target, programs, check in looked for part in with_programs(target.name, programs, functools.partial(check, target))]
 
 
-def frames_to_look_at() -> List[Task]:
-    """Returns a task for each build in which the frames of functions are looked at. It is for those that are compared too."""
+def frames_to_look_at() -> List[Part]:
+    """Returns a part for each build in which the frames of functions are looked at. It is for those that are compared too."""
     targets = [it for it in [*builds.NATIVE, *builds.EMULATED] if shutil.which(it.compiler)]
-    return [(f"the frames of {it.name}", functools.partial(stack.has_small_frames, it)) for it in targets]
+    return [Part(f"the frames of {it.name}", in_folder(functools.partial(stack.has_small_frames, it))) for it in targets]
 
 
-def other_tasks() -> List[Task]:
+def other_parts() -> List[Part]:
     return [
         *on_x86_64(),
         *frames_to_look_at(),
@@ -101,19 +96,6 @@ def other_tasks() -> List[Task]:
     ]
 
 
-def failure(task: Task) -> Optional[str]:
-    """Runs a task in a folder of its own. Returns what is wrong, or None."""
-    name, check = task
-    with tempfile.TemporaryDirectory() as folder:
-        try:
-            said = check(folder)
-        except builds.Failed as failed:
-            return f"{name}: {failed}"
-    if said:
-        print(said, flush=True)
-    return None
-
-
 def main() -> None:
     words = argparse.ArgumentParser()
     words.add_argument("--cases", type=int, default=2000)
@@ -121,16 +103,11 @@ def main() -> None:
     words.add_argument("--only", nargs="*", default=[""])
     words.add_argument("--speed", action="store_true")
     given = words.parse_args()
-    missing = [it for it in ["gcc", "wasm2c", "wasm-opt"] if not shutil.which(it)]
-    if missing:
-        left_out(f"{missing[0]} isn't here, so the library as plain C isn't checked")
+    if not all(is_here(it, "the library as plain C isn't checked") for it in ["gcc", "wasm2c", "wasm-opt"]):
         return
     with tempfile.TemporaryDirectory() as folder:
         builds.use(pathlib.Path(folder))
-        try:
-            sources.made(builds.DIST)
-        except builds.Failed as failed:
-            sys.exit(f"tools/check_portable: {failed}")
+        sources.made(builds.DIST)
         if given.speed:
             speed.measure()
         else:
@@ -138,15 +115,14 @@ def main() -> None:
 
 
 def check(count: int, seed: int, only: List[str]) -> None:
-    """Runs the tasks whose names have one of these words, side by side."""
+    """Runs the parts whose names have one of these words."""
     calls = agreement.calls_of(count, seed)
-    with tempfile.TemporaryDirectory() as folder, ThreadPoolExecutor(max_workers=len(os.sched_getaffinity(0))) as pool:
-        right = builds.answers(None, builds.native(folder), calls)
-        tasks = [it for it in [*builds_to_compare(calls, right), *other_tasks()] if any(word in it[0] for word in only)]
-        wrong = [told for told in pool.map(failure, tasks) if told]
-    if wrong:
-        sys.exit("tools/check_portable: something is wrong\n" + "\n".join(wrong))
-    print(f"dist/c: {len(calls)} generated calls agree with libshamir.so in each build, and {len(tasks)} checks passed")
+    with tempfile.TemporaryDirectory() as folder:
+        right = driver.answers([builds.native(folder)], calls)
+    parts = [it for it in [*builds_to_compare(calls, right), *other_parts()] if any(word in it.name for word in only)]
+    if not all_pass(parts):
+        sys.exit("tools/check_portable: something is wrong")
+    print(f"dist/c: {len(calls)} generated calls agree with libshamir.so in each build, and {len(parts)} checks passed")
 
 
 if __name__ == "__main__":

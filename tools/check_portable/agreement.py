@@ -2,11 +2,12 @@
 import multiprocessing
 import pathlib
 import sys
-from typing import List, Optional
+from typing import List
 
 sys.path.insert(0, str(pathlib.Path(__file__).resolve().parents[1]))
 
 import builds  # noqa: E402
+import driver  # noqa: E402
 import generated  # noqa: E402
 
 PARTS = 20
@@ -26,22 +27,9 @@ def calls_of(count: int, seed: int) -> List[str]:
         return [line for lines in pool.map(part, [(each, seed * PARTS + number) for number in range(PARTS)]) for line in lines]
 
 
-def difference(name: str, calls: List[str], found: List[str], right: List[str]) -> Optional[str]:
-    """Returns what differs first, or None."""
-    if len(found) != len(right):
-        return f"{name} gives {len(found)} answers, and the native library {len(right)}"
-    for line, one, other in zip(calls, found, right):
-        if one != other or " changed" in one:
-            return f"{name} differs: {line[:2000]}\nas plain C: {one[:2000]!r}\nnative:     {other[:2000]!r}"
-    return None
-
-
-def agreed(target: builds.Target, calls: List[str], right: List[str], folder: str) -> None:
+def agreed(target: builds.Target, calls: List[str], right: List[str], folder: str, *how: str) -> None:
     """Sees that a build gives the answers of the native library."""
-    found = builds.answers(target, builds.built(target, folder), calls, folder=folder)
-    told = difference(target.name, calls, found, right)
-    if told:
-        raise builds.Failed(told)
+    driver.check(builds.words_of(target, builds.built(target, folder), folder), [*zip(calls, right)], *how)
 
 
 def agreed_with_vectors(target: builds.Target, calls: List[str], right: List[str], folder: str) -> None:
@@ -52,7 +40,4 @@ def agreed_with_vectors(target: builds.Target, calls: List[str], right: List[str
 
 def agreed_in_threads(target: builds.Target, calls: List[str], right: List[str], folder: str) -> None:
     """Sees that threads that make the same calls at once get the answers of the native library, and no race."""
-    found = builds.answers(target, builds.built(target, folder), calls, "threads", str(THREADS), folder=folder)
-    told = difference(target.name, calls, found, right)
-    if told:
-        raise builds.Failed(told)
+    agreed(target, calls, right, folder, "threads", str(THREADS))

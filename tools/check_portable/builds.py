@@ -128,13 +128,8 @@ def native(folder: str) -> str:
     return driver.built(f"{folder}/native", ["gcc", "-O1", f"-I{ROOT}/include"], *library)
 
 
-def words_of(target: Optional[Target], program: str, folder: str) -> List[str]:
+def words_of(target: Target, program: str, folder: str) -> List[str]:
     """Returns the words that run a program that was built, with its emulator."""
-    emulator = target.emulator() if target else None
-    environment = {**(target.environment if target else {}), "WINEPREFIX": f"{folder}/wine"}
+    emulator = target.emulator()
+    environment = {**target.environment, "WINEPREFIX": f"{folder}/wine"}
     return ["env", *(f"{name}={value}" for name, value in environment.items()), *([emulator] if emulator else []), program]
-
-
-def answers(target: Optional[Target], program: str, calls: List[str], *how: str, folder: str = "") -> List[str]:
-    """Makes calls with a program that was built, and returns the line that it writes for each."""
-    return driver.answers(words_of(target, program, folder), calls, *how)

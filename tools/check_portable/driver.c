@@ -70,6 +70,8 @@ typedef struct {
 #define WIDE(place) c->arguments[place].number
 #define NUMBER(place) (uint32_t)WIDE(place)
 #define CHARACTERS (char *)r->output, r->room
+/* Parameters, whose fields are three arguments from this place on. */
+#define PARAMETERS(place) &(shamir_parameters){(uint16_t)WIDE(place), (uint8_t)WIDE((place) + 1), (uint8_t)WIDE((place) + 2)}
 
 #define CALL(name, ...) \
     static void name(const made_call *c, result *r) \
@@ -92,13 +94,10 @@ CALL(repair, TEXT(0), CHARACTERS)
 CALL(fingerprint, BYTES(0), CHARACTERS)
 CALL(words, TEXT(0), CHARACTERS)
 CALL(version, CHARACTERS)
-
-static void text(const made_call *c, result *r)
-{
-    shamir_answer given = {NUMBER(0), NUMBER(1), WIDE(2), WIDE(3), WIDE(4), WIDE(5)};
-
-    r->answer = shamir_text(&given, CHARACTERS);
-}
+CALL(text, &(shamir_answer){NUMBER(0), NUMBER(1), WIDE(2), WIDE(3), WIDE(4), WIDE(5)}, CHARACTERS)
+CALL(decrypt, PARAMETERS(0), BYTES(3), TEXT(4), TEXT(5), r->output, r->room)
+CALL(decrypt_round, PARAMETERS(0), (uint8_t)WIDE(3), BYTES(4), TEXT(5), r->output, r->room)
+CALL(create_from_encrypted, TEXT(0), PARAMETERS(1), BYTES(4), BYTES(5), CHARACTERS)
 
 static void encrypted(const made_call *c, result *r)
 {
@@ -108,27 +107,6 @@ static void encrypted(const made_call *c, result *r)
     r->judgement.share.id = found.id;
     r->judgement.share.extendable = found.extendable;
     r->judgement.share.exponent = found.exponent;
-}
-
-static void decrypt(const made_call *c, result *r)
-{
-    shamir_parameters given = {(uint16_t)WIDE(0), (uint8_t)WIDE(1), (uint8_t)WIDE(2)};
-
-    r->answer = shamir_decrypt(&given, BYTES(3), TEXT(4), TEXT(5), r->output, r->room);
-}
-
-static void decrypt_round(const made_call *c, result *r)
-{
-    shamir_parameters given = {(uint16_t)WIDE(0), (uint8_t)WIDE(1), (uint8_t)WIDE(2)};
-
-    r->answer = shamir_decrypt_round(&given, (uint8_t)WIDE(3), BYTES(4), TEXT(5), r->output, r->room);
-}
-
-static void create_from_encrypted(const made_call *c, result *r)
-{
-    shamir_parameters given = {(uint16_t)WIDE(1), (uint8_t)WIDE(2), (uint8_t)WIDE(3)};
-
-    r->answer = shamir_create_from_encrypted(TEXT(0), &given, BYTES(4), BYTES(5), CHARACTERS);
 }
 
 /* Clears the whole output, which it gets as an argument too. */

@@ -3,15 +3,14 @@ import random
 from typing import Callable, Dict, List
 
 import driver
-from tool import tool
+import shamir_h
+from generated_cases import compare, judge_case
 
-compare, module = tool("compare"), tool("module")
 
-ENOUGH = {"parse": 128, "create": 253440, "recover": 128, "drill": 65536, "status": 1638, "reissue": 253440, "repair": 1980, "resplit": 253440}
-ENOUGH |= {"encrypted": 128, "decrypt": 128, "decrypt_round": 128, "judge": 1638, "create_from_encrypted": 253440}
-ENOUGH |= {"fingerprint": 8, "words": 7231, "text": 64, "version": 64}
+ENOUGH = {**shamir_h.ENOUGH, "drill": 65536}
 CODES = [*range(0, 35), 41, 42, 43, 44, 51, 52, *range(61, 69), 71, 72, 99, 2**32 - 1]
 FORMS = [0, 0, 1, 2, 2, 3]
+Kind = Callable[[random.Random], str]
 
 
 def call(rng: random.Random, name: str, *arguments: "bytes | str | int") -> str:
@@ -20,6 +19,11 @@ def call(rng: random.Random, name: str, *arguments: "bytes | str | int") -> str:
     if rng.random() < 0.15:
         room = rng.choice([0, 1, rng.randrange(room + 1), rng.randrange(min(room, 200) + 1), room + rng.randrange(1000)])
     return driver.line(name, [it if isinstance(it, int) else it or None for it in arguments], room)
+
+
+def of_lines(name: str) -> Kind:
+    """Returns what makes calls that take the lines of a backup, and nothing else."""
+    return lambda rng: call(rng, name, compare.made_backup(rng)[0])
 
 
 def parse_call(rng: random.Random) -> str:
@@ -51,10 +55,6 @@ def drill_call(rng: random.Random) -> str:
     return call(rng, "drill", data, passphrase, rng.choice([15, 15, 15, 0]), after, limit, form, expected)
 
 
-def encrypted_call(rng: random.Random) -> str:
-    return call(rng, "encrypted", compare.made_backup(rng)[0])
-
-
 def parameters(rng: random.Random) -> List[int]:
     return [rng.choice([rng.randrange(2**15)] * 9 + [2**15, 2**16 - 1]), rng.choice([0, 1] * 9 + [2, 255]), rng.choice([0] * 12 + [1, 16, 255])]
 
@@ -77,17 +77,9 @@ def create_from_encrypted_call(rng: random.Random) -> str:
     return call(rng, "create_from_encrypted", plan, identifier, extendable, exponent, value, drawn[:count])
 
 
-def status_call(rng: random.Random) -> str:
-    return call(rng, "status", compare.made_backup(rng)[0])
-
-
 def judge_call(rng: random.Random) -> str:
-    case = module.judge_case(rng)
+    case = judge_case(rng)
     return call(rng, "judge", case.data, bytes.fromhex(case.words[1]))
-
-
-def quorums_call(rng: random.Random) -> str:
-    return call(rng, "quorums", compare.made_backup(rng)[0])
 
 
 def reissue_call(rng: random.Random) -> str:
@@ -132,10 +124,10 @@ def wipe_call(rng: random.Random) -> str:
 
 
 # How often each call is made. Those that decrypt take longest under an emulator.
-KINDS: Dict[Callable[[random.Random], str], int] = {
-    parse_call: 18, random_needed_call: 8, create_call: 5, recover_call: 6, drill_call: 5, status_call: 12, reissue_call: 12,
+KINDS: Dict[Kind, int] = {
+    parse_call: 18, random_needed_call: 8, create_call: 5, recover_call: 6, drill_call: 5, of_lines("status"): 12, reissue_call: 12,
     repair_call: 14, fingerprint_call: 6, words_call: 6, text_call: 6, version_call: 1, wipe_call: 1,
-    judge_call: 10, quorums_call: 6, resplit_call: 8, encrypted_call: 8, decrypt_call: 4, create_from_encrypted_call: 8,
+    judge_call: 10, of_lines("quorums"): 6, resplit_call: 8, of_lines("encrypted"): 8, decrypt_call: 4, create_from_encrypted_call: 8,
     decrypt_round_call: 4,
 }  # fmt: skip
 

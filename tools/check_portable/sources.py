@@ -5,12 +5,13 @@ import re
 import shutil
 import signal
 import subprocess
-from typing import Set
 
 import builds
 import driver
+import shamir_h
 import worked
 from builds import ROOT, Failed, run
+from tool import symbols_of
 
 LIBC = {"memcpy", "memmove", "memset", "malloc", "free"}
 # A compiler takes these for a position-independent file, and for guards that the system asks for by default.
@@ -38,17 +39,12 @@ def made(folder: pathlib.Path) -> None:
                 raise Failed(f"dist/c/{path.name} isn't what `make portable` makes of shamir32.wasm and the sources")
 
 
-def symbols(path: str, *options: str) -> Set[str]:
-    """Returns the symbols of an object file that nm shows with these options."""
-    return {line.split()[-1] for line in run(["nm", "-g", *options, path]).decode().splitlines()}
-
-
 def has_right_symbols(folder: str) -> None:
     """Sees that shamir.c exports the calls of the header alone, and takes a few functions of the C library."""
-    calls = set(re.findall(r"^(?:shamir_answer|void) (shamir_\w+)\(", (builds.DIST / "shamir.h").read_text(), re.MULTILINE))
+    calls = set(shamir_h.calls((builds.DIST / "shamir.h").read_text()))
     for option in ["-O2", "-Os", "-O0"]:
         file = builds.compiled("gcc", option)
-        exported, needed = symbols(file, "--defined-only"), symbols(file, "--undefined-only")
+        exported, needed = (symbols_of(file, "-g", f"--{it}-only") for it in ["defined", "undefined"])
         if exported != calls:
             raise Failed(f"with {option}, shamir.c exports {sorted(exported ^ calls)} or lacks them")
         if needed - LIBC - OF_COMPILER:
@@ -96,8 +92,8 @@ def refuses_without_memory(folder: str) -> None:
     refused = [(line, worked.wanted(NO_MEMORY)) for line, _ in made] + [*worked.calls_of(told)][:2]
     for words in [["-O2"], ["-O0", *builds.SANITIZED]]:
         program = driver.built(f"{folder}/driver", ["gcc"], *words, f"-I{builds.DIST}", str(builds.HERE / "no_memory.c"))
-        worked.check(["env", "ASAN_OPTIONS=detect_leaks=0", program], made)
-        worked.check(["env", "ASAN_OPTIONS=detect_leaks=0", "EMPTY=1", program], refused)
+        driver.check(["env", "ASAN_OPTIONS=detect_leaks=0", program], made)
+        driver.check(["env", "ASAN_OPTIONS=detect_leaks=0", "EMPTY=1", program], refused)
 
 
 def stops_at_an_overflow(folder: str) -> None:
@@ -118,4 +114,4 @@ def stops_at_an_overflow(folder: str) -> None:
 
 def has_worked_examples(folder: str) -> None:
     """Makes the worked examples with the library as plain C."""
-    worked.check([driver.built(f"{folder}/driver", ["gcc"], "-O2", f"-I{builds.DIST}", builds.compiled("gcc", "-O2"))], worked.calls())
+    driver.check([driver.built(f"{folder}/driver", ["gcc"], "-O2", f"-I{builds.DIST}", builds.compiled("gcc", "-O2"))], worked.calls())

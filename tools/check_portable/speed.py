@@ -41,8 +41,7 @@ def measure() -> None:
     with tempfile.TemporaryDirectory() as folder:
         programs: Dict[str, str] = {}
         for name, words in libraries().items():
-            programs[name] = f"{folder}/{len(programs)}"
-            run(["gcc", "-std=c99", "-O2", f"-I{builds.DIST}", str(driver.SOURCE), *words, "-o", programs[name]])
+            programs[name] = driver.built(f"{folder}/{len(programs)}", ["gcc", "-O2", f"-I{builds.DIST}"], *words)
         # The programs take turns, so that what else runs slows down all of them.
         found = [{name: times_of(program) for name, program in programs.items()} for _ in range(REPEATS)]
         best = {name: [min(times) for times in zip(*(turn[name] for turn in found))] for name in programs}

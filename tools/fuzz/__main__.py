@@ -76,7 +76,7 @@ def fuzz_python(seconds: int, seed: int) -> int:
     while time.monotonic() < end:
         name, data = rng.choice([*right]), mutated(rng, inputs)
         if name in ("show", "repair"):
-            data = library.module.compare.first_line(data)
+            data = library.compare.first_line(data)
         expected = right[name](data)
         result, refused = library.answer_of([name], data)
         if (result or "", f"shamir: {refused}\n" if refused else "") != expected[:2]:

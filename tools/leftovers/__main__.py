@@ -47,23 +47,13 @@ FRAMES = 384
 SHOWN = 20
 
 
-def too_deep(archive: pathlib.Path) -> List[str]:
-    """Returns which calls can reach further down than they clear."""
-    sizes = frames.sizes_of(str(archive), cases.CALLS)
-    return [
-        f"shamir_{call} can reach {sizes[call].reached} bytes down, and clears {sizes[call].cleared}"
-        for call in cases.CALLS
-        if sizes[call].reached > sizes[call].cleared
-    ]
-
-
 def of_calls(archive: pathlib.Path) -> List[str]:
     """Checks the calls of the library. Returns what is wrong."""
     if not is_here(COMPILER[0], "nothing looks for what the calls of the library leave on the stack"):
         return []
     told, count, deepest = calls.all_leftovers([*COMPILER, *INCLUDED], str(archive), cases.LENGTHS, FRAMES)
     if is_here("objdump", "nothing says how far down a call can reach"):
-        told += too_deep(archive)
+        told += frames.too_deep(frames.sizes_of(str(archive), cases.CALLS))
     if not told:
         print(f"after each of {count} calls of the library, nothing secret is left on its stack; below {deepest} bytes, all of it is 0")
     return told

@@ -1,5 +1,4 @@
 """What calls of the library leave on the stack below their caller."""
-import sys
 import tempfile
 from concurrent.futures import ThreadPoolExecutor
 from typing import List, Sequence, Tuple
@@ -15,10 +14,7 @@ def answered(program: List[str], case: cases.Case) -> Tuple[int, bytes]:
     """Makes a call by a program, which may be an emulator's first argument. Returns its code, and what it touched of the stack below
     the caller."""
     *arguments, room = case.arguments
-    try:
-        answer, touched = driver.answers(program, [driver.line(case.call, arguments, int(room))])
-    except driver.Failed as failed:
-        sys.exit(f"tools/leftovers: {failed}")
+    answer, touched = driver.answers(program, [driver.line(case.call, arguments, int(room))])
     return int(answer.split()[0]), bytes.fromhex(touched)
 
 

@@ -1,15 +1,11 @@
 """The inputs and outputs of a program: files, terminals, and devices that fail."""
 import contextlib
-import os
-import pty
 import socket
 import tempfile
-import termios
 from dataclasses import dataclass, field
 from typing import IO, Dict, Iterator, Tuple
 
-LOCAL_MODES = 3
-END_OF_INPUT = b"\x04"
+from running import END_OF_INPUT, typed
 
 
 @dataclass(frozen=True)
@@ -44,26 +40,6 @@ def cut_off(given: bytes) -> socket.socket:
 
 
 @contextlib.contextmanager
-def terminal(typed: bytes) -> Iterator[int]:
-    """Opens a terminal without an echo, at which this is typed, and then the end of the input: twice, as it only ends a line that
-    isn't empty. Yields the end of the program. Nobody reads ours: the terminal keeps some thousand bytes each way.
-    """
-    ours, theirs = pty.openpty()
-    try:
-        modes = termios.tcgetattr(theirs)
-        modes[LOCAL_MODES] &= ~termios.ECHO
-        termios.tcsetattr(theirs, termios.TCSANOW, modes)
-        os.set_blocking(ours, False)
-        text = typed + 2 * END_OF_INPUT
-        if os.write(ours, text) < len(text):
-            raise OSError("the terminal doesn't take all that is typed")
-        yield theirs
-    finally:
-        os.close(theirs)
-        os.close(ours)
-
-
-@contextlib.contextmanager
 def opened(given: bytes, how: How, kept: IO[bytes]) -> Iterator[Tuple[int, int]]:
     """Opens the input and the output of a program. Yields their descriptors. The output goes to a file, if it's no other device."""
     with contextlib.ExitStack() as stack:
@@ -76,7 +52,8 @@ def opened(given: bytes, how: How, kept: IO[bytes]) -> Iterator[Tuple[int, int]]
         if how.is_full:
             writer = stack.enter_context(open("/dev/full", "wb")).fileno()
         if how.is_typed or how.is_shown:
-            theirs = stack.enter_context(terminal(given if how.is_typed else b""))
+            # The end of the input is typed twice, as it only ends a line that isn't empty.
+            theirs = stack.enter_context(typed(given + 2 * END_OF_INPUT if how.is_typed else b""))
             reader = theirs if how.is_typed else reader
             writer = theirs if how.is_shown else writer
         yield reader, writer

@@ -86,6 +86,11 @@ def sizes_of(archive: str, calls: List[str]) -> Dict[str, Sizes]:
     return sizes_in(functions_of(archive), calls)
 
 
+def too_deep(sizes: Dict[str, Sizes]) -> List[str]:
+    """Returns which calls can reach further down than they clear."""
+    return [f"shamir_{call} can reach {it.reached} bytes down, and clears {it.cleared}" for call, it in sizes.items() if it.reached > it.cleared]
+
+
 def sizes_in(functions: Dict[str, Function], calls: List[str]) -> Dict[str, Sizes]:
     """Returns the sizes of calls by the functions that there are. One that clears nothing clears 0 bytes."""
     depth = depth_in(functions)

@@ -9,6 +9,7 @@ from dataclasses import dataclass
 from typing import Tuple
 
 import plain
+import planted
 from wrong_reading import READING
 from wrong_sets import SETS
 from wrong_writing import WRITING
@@ -49,9 +50,7 @@ def mistaken(mistake):
     """Returns a copy of the plain reading with a mistake in it."""
     text = (plain.ROOT / "tools" / "plain.py").read_text()
     for old, new in mistake.changes:
-        if text.count(old) != 1:
-            raise ValueError(f"the mistake {mistake.name} changes {old!r}, which tools/plain.py has {text.count(old)} times")
-        text = text.replace(old, new)
+        text = planted.changed(text, old, new, f"for {mistake.name}, tools/plain.py")
     reader = types.ModuleType(f"plain with {mistake.name}")
     reader.__file__ = plain.__file__
     exec(compile(text, f"<{reader.__name__}>", "exec"), reader.__dict__)

@@ -1,12 +1,11 @@
 """Checks what vectors/README.md says: its kinds and counts, its example, and how Electrum answers. Checks the files by the schema."""
 import collections
-import json
 import re
-import subprocess
 import sys
 
 import plain
 from left_out import left_out, python_with
+from tool import ran
 
 import data
 import encrypted
@@ -66,9 +65,7 @@ def check_schema():
     if python is None:
         left_out("no Python here has jsonschema, so vectors.json isn't compared with its schema")
         return
-    done = subprocess.run([python, "-c", VALIDATE, "schema.json", "vectors.json"], cwd=data.FOLDER, capture_output=True, text=True)
-    if done.returncode:
-        sys.exit(f"vectors.json isn't what its schema says: {done.stderr}")
+    ran([python, "-c", VALIDATE, "schema.json", "vectors.json"], cwd=data.FOLDER)
 
 
 def has_flag(case):

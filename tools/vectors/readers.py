@@ -2,10 +2,11 @@
 import json
 import re
 import subprocess
-import tempfile
 
 from case import FIELDS, refused
 from left_out import python_with
+from running import answer, file_with
+from tool import ran
 
 NUMBERS = ["identifier", "extendable", "exponent", "group", "group-threshold", "group-count", "member", "member-threshold"]
 SHOWN = re.compile("".join(rf"{name} (\d+) " for name in NUMBERS) + r"value ([0-9a-f]+)\n")
@@ -95,12 +96,9 @@ def of_program(program, case):
     """Returns what the program answers, or None for an empty mnemonic, which is no line of an input, and for what no command does."""
     if case.asks in ("encrypted", "decrypt", "decrypt_round", "create_from_encrypted") or case.asks == "parse" and not case.given["mnemonic"]:
         return None
-    with tempfile.NamedTemporaryFile() as random:
-        random.write(bytes.fromhex(case.given.get("random", "")))
-        random.flush()
-        words, data = words_and_input(case, random.name)
-        done = subprocess.run([program, *words], input=data, capture_output=True)
-    output, errors = done.stdout.decode(), done.stderr.decode()
+    with file_with(bytes.fromhex(case.given.get("random", ""))) as random:
+        words, data = words_and_input(case, random)
+        output, errors, _ = answer([program, *words], data)
     told = re.fullmatch(r"shamir: (?:line (\d+): )?(\d+) (.*)\n", errors)
     if told:
         line = {} if told[1] is None or case.asks == "parse" else {"line": int(told[1])}
@@ -143,7 +141,4 @@ def of_electrum(cases):
     python = python_with("electrum.slip39")
     if python is None:
         return None
-    done = subprocess.run([python, "-c", READER], input=json.dumps(cases), capture_output=True, text=True)
-    if done.returncode:
-        raise RuntimeError(done.stderr)
-    return json.loads(done.stdout)
+    return json.loads(ran([python, "-c", READER], stdin=None, input=json.dumps(cases), stderr=subprocess.PIPE))

@@ -1,30 +1,22 @@
-#!/usr/bin/env python3
-"""Runs generated cases through both forms of the engine for WebAssembly, under Node with bindings/js, and through a plain reading
-of the standard in Python (tools/plain.py). It compares what they give.
+"""Generated cases of the library's calls, and what is right for them by a plain reading of the standard (tools/plain.py). Readers are programs
+that make the calls in another language. They are compared on the same cases.
 
-    tools/module [--cases N] [--seed S] [--kinds KIND,..]
-
-The cases are those of tools/compare, prefixes of words, encrypted secrets, and mnemonics that are judged beside others. tools/module.mjs
-makes the calls, and writes what the command would print. At the first case that differs, the tool prints the case and exits with status 1. It needs shamir.wasm and shamir32.wasm,
-which `make wasm` builds, and Node. Without Node it says so, and runs nothing.
+A reader gets a line for each case: a command and its values. A value is a point and hexadecimal digits, or - for none. It writes a line
+for each: what the command writes to standard output, and its refusal without the name of the command, both in this form.
 """
-import argparse
-import base64
-import json
 import random
 import subprocess
 import sys
+from dataclasses import dataclass
+from typing import Any, Callable, List, Tuple
 
 import plain
-from left_out import left_out
-# tools/library takes a command line apart by it, too.
-from plain import parts
-from tool import ROOT, tool, workers
+from tool import tool, workers
 
-compare, javascript = tool("compare"), tool("javascript")
+compare = tool("compare")
 
-# Node runs this many cases at a time.
-BATCH = 100
+# A reader gets this many cases at a time.
+BATCH = 50
 
 
 def show_case(rng):
@@ -122,61 +114,80 @@ KINDS |= {
 }
 
 
-def request(case):
-    """Returns a case as a line for tools/module.mjs."""
-    kind, words, options = parts(case.words)
-    return json.dumps({"kind": kind, "words": words, "options": options, "data": base64.b64encode(case.data).decode()})
-
-
 def made(seed, kinds):
     rng = random.Random(seed)
     return KINDS[rng.choice(kinds)](rng)
 
 
-def difference(number, case, name, answer):
-    """Says how the answer of a reader differs from the plain reading."""
-    line = " ".join(map(repr, case.words))
-    return f"case {number} differs: {line}\ninput: {case.data!r}\n{name}: {answer!r}\nplain: {case.expected!r}"
+def request(case):
+    """Returns a case as a line for a reader."""
+    kind, words, options = plain.parts(case.words)
+    passphrase = options.get("passphrase", "")
+    flag = {name: "1" if options.get(name) else "" for name in plain.FLAGS}
+    values = {
+        "create": lambda: [*words, bytes.fromhex(options["master-secret"]), passphrase, options.get("exponent", "0"), flag["extendable"]],
+        "recover": lambda: [passphrase, options.get("expect"), flag["fingerprint"]],
+        "drill": lambda: [passphrase, options.get("after"), options.get("expect"), options.get("limit", str(2**31)), flag["fingerprint"]],
+        "resplit": lambda: [*words, bytes.fromhex(options["random"])],
+        "judge": lambda: [bytes.fromhex(*words)],
+        "create_from_encrypted": lambda: [*words, options["id"], flag["extendable"], options["exponent"], bytes.fromhex(options["random"])],
+        "decrypt": lambda: [options["id"], flag["extendable"], options["exponent"], passphrase, options.get("expect")],
+        "decrypt_round": lambda: [*words, options["id"], flag["extendable"], options["exponent"], passphrase],
+    }.get(kind, lambda: words)()
+    given = [value.encode() if isinstance(value, str) else value for value in [*values, *([] if kind == "words" else [case.data])]]
+    return " ".join([kind, *("-" if value is None else "." + value.hex() for value in given)])
+
+
+def expected(case):
+    """Returns what the command writes, and its refusal without the name of the command. A line of its own has no number."""
+    output, told, _ = case.expected
+    told = told.removeprefix("shamir: ").removesuffix("\n")
+    return output, told.removeprefix("line 1: ") if case.words[0] in ("show", "repair") else told
+
+
+def every(case):
+    return True
+
+
+@dataclass(frozen=True)
+class Reader:
+    """The name of a reader, the words that run it, what is right for it, and which cases it takes."""
+
+    name: str
+    words: List[str]
+    right: Callable[[Any], Tuple[str, str]] = expected
+    takes: Callable[[Any], bool] = every
 
 
 def differences(batch):
-    """Returns what differs in a batch of cases, as a text for each difference."""
-    numbers, seed, kinds, forms = batch
-    cases = [(number, made(f"{seed}/{number}", kinds)) for number in numbers]
-    lines = "".join(request(case) + "\n" for _, case in cases).encode()
-    found = []
-    for module, flags in forms:
-        words = ["node", *flags, str(ROOT / "tools" / "module.mjs"), str(module)]
-        answers = subprocess.run(words, input=lines, stdout=subprocess.PIPE, check=True).stdout.splitlines()
-        assert len(answers) == len(cases)
-        for (number, case), answer in zip(cases, map(json.loads, answers)):
-            if tuple(answer) != case.expected[:2]:
-                found.append(difference(number, case, module.name, answer))
-    return found
+    """Returns how many cases of a batch the readers take, and how one of them differs, or nothing."""
+    numbers, seed, kinds, readers = batch
+    cases, count = [(number, made(f"{seed}/{number}", kinds)) for number in numbers], 0
+    for reader in readers:
+        taken = [(number, case) for number, case in cases if reader.takes(case)]
+        lines = "".join(request(case) + "\n" for _, case in taken)
+        done = subprocess.run(reader.words, input=lines, capture_output=True, text=True)
+        answers = done.stdout.splitlines()
+        if done.returncode or len(answers) != len(taken):
+            told = f"{' '.join(reader.words)} ends with status {done.returncode} after {len(answers)} of {len(taken)} cases:\n{done.stderr}"
+            return count, told
+        for (number, case), answer in zip(taken, answers):
+            found = tuple(bytes.fromhex(part[1:]).decode() for part in answer.split(" "))
+            if found != reader.right(case):
+                line = " ".join(map(repr, case.words))
+                told = f"case {number} differs: {line}\ninput: {case.data!r}\n{reader.name}: {found!r}\nplain: {case.expected!r}"
+                return count, told
+        count += len(taken)
+    return count, ""
 
 
-def compare_all(differences, count, size, *given):
-    """Compares so many cases, in batches of this size, side by side. At the first difference, the tool prints it and exits."""
-    batches = [(range(at, min(at + size, count)), *given) for at in range(0, count, size)]
+def compare_all(readers, count, seed, kinds=tuple(KINDS)):
+    """Compares readers on so many cases, side by side. Returns how many they take. At the first difference, the tool prints it and exits."""
+    batches = [(range(at, min(at + BATCH, count)), seed, kinds, readers) for at in range(0, count, BATCH)]
+    tried = 0
     with workers() as pool:
-        for found in pool.map(differences, batches):
-            if found:
-                sys.exit(found[0])
-
-
-def main():
-    parser = argparse.ArgumentParser()
-    parser.add_argument("--cases", type=int, default=10000)
-    parser.add_argument("--seed", type=int, default=39)
-    parser.add_argument("--kinds", default=",".join(KINDS))
-    args = parser.parse_args()
-    if not javascript.has_node():
-        return left_out("node 20 or later isn't here, so the library for WebAssembly isn't compared")
-    forms = javascript.forms()
-    compare_all(differences, args.cases, BATCH, args.seed, args.kinds.split(","), forms)
-    print(f"{args.cases} cases agree with {' and with '.join(module.name for module, _ in forms)}")
-    return None
-
-
-if __name__ == "__main__":
-    main()
+        for more, told in pool.map(differences, batches):
+            tried += more
+            if told:
+                sys.exit(told)
+    return tried

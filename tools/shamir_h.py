@@ -1,0 +1,35 @@
+"""Reads include/shamir.h: its calls, its codes and numbers, and what its comments say."""
+import re
+from typing import Dict, Iterator, List, Tuple
+
+from tool import ROOT
+
+PATH = ROOT / "include" / "shamir.h"
+TEXT = PATH.read_text()
+[VERSION] = re.findall(r'^#define SHAMIR_VERSION "(.*)"$', TEXT, re.MULTILINE)
+# The numbers and codes in their order, by their names without SHAMIR_ or SHAMIR_E_.
+NUMBERS = {name: int(number) for name, number in re.findall(r"^#define SHAMIR_(\w+) (\d+)$", TEXT, re.MULTILINE)}
+CODES = {name: int(number) for name, number in re.findall(r"^    SHAMIR_(?:E_|(?=DONE ))(\w+) = (\d+)\b", TEXT, re.MULTILINE)}
+# How much room is enough for the output of each call that has one.
+ENOUGH = dict.fromkeys(["parse", "recover", "encrypted", "decrypt", "decrypt_round"], NUMBERS["SECRET_BYTES_MAX"])
+ENOUGH |= dict.fromkeys(["create", "create_from_encrypted", "resplit", "reissue"], NUMBERS["MNEMONICS_BYTES_MAX"])
+ENOUGH |= dict.fromkeys(["status", "judge"], NUMBERS["STATUS_BYTES_MAX"]) | dict.fromkeys(["text", "version"], NUMBERS["TEXT_BYTES_MAX"])
+ENOUGH |= {"drill": NUMBERS["LISTING_BYTES_ENOUGH"], "repair": NUMBERS["REPAIRED_BYTES_MAX"]}
+ENOUGH |= {"fingerprint": NUMBERS["FINGERPRINT_BYTES_MAX"], "words": NUMBERS["WORDS_BYTES_MAX"]}
+# A comment of the header, and what it is about: the lines up to the next blank one.
+COMMENTED = re.compile(r"^/\*((?:(?!\*/)[\s\S])*)\*/\n((?:.+\n)+)", re.MULTILINE)
+
+
+def commented(text: str = TEXT) -> Iterator[Tuple[List[str], str]]:
+    """Yields the paragraphs of each comment of the header, and what it is about."""
+    for says, about in COMMENTED.findall(text):
+        yield re.sub(r"^ \* ?", "", says, flags=re.MULTILINE).strip().split("\n\n"), about
+
+
+def calls(text: str = TEXT) -> Dict[str, Tuple[str, List[str], List[str]]]:
+    """Returns each call of the header with the type of its result, its parameters and the paragraphs of its comment."""
+    found = {}
+    for says, about in commented(text):
+        for kind, name, given in re.findall(r"^SHAMIR_CALL.*\n(shamir_answer|void) (\w+)\(([^;]*)\);", about):
+            found[name] = kind, [" ".join(one.split()) for one in given.split(",")], says
+    return found
