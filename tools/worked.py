@@ -162,6 +162,7 @@ CREATED: List[Row] = [
 
 # Each call that takes the lines of a backup refuses these, if nothing before them is refused.
 REFUSED_LINES: List[Row] = [
+    (None, Answer(29, "no shares")),
     ([], Answer(29, "no shares")),
     ([""], Answer(29, "no shares")),
     ([ONE_WRONG], Answer(13, "bad checksum", line=1)),
