@@ -67,7 +67,8 @@ parameters_some parameters =
           | inr high ↦ (Err tt, λ is. let within = is.2 in omega (arith, high, within))
           | inl exponent ↦ (
               let (flag, is) = flag_of parameters.extendable low in
-              let params : Params = record { id = parameters.id; extendable = flag; exponent = parameters.exponent; id_in_range = id; exponent_in_range = exponent } in
+              let params : Params =
+              record { id = parameters.id; extendable = flag; exponent = parameters.exponent; id_in_range = id; exponent_in_range = exponent } in
               (Ok params, ap (λ (bit : ℕ). numbers parameters.id bit parameters.exponent) (sym is)))
         ]
       ]

@@ -102,7 +102,8 @@ module _ (created : (form : SecretForm) (passphrase : List ℕ) (after : Option 
   drills_created (inr (form, is, inr (after, names, inl none))) = inr (form, is, inr (after, names, inl none))
   drills_created (inr (form, is, inr (after, names, inr (kind, of, inl none)))) = inr (form, is, inr (after, names, inr (kind, of, inl none)))
   drills_created (inr (form, is, inr (after, names, inr (kind, of, inr (set, up, listing))))) =
-      let lists = listing_weaker {IsOutput = λ n. IsDrillOutput kind passphrase after n (whole lines)} {Follows = λ n. DrillsCreated kind passphrase after n (whole lines)}
+      let lists = listing_weaker {IsOutput = λ n. IsDrillOutput kind passphrase after n (whole lines)}
+      {Follows = λ n. DrillsCreated kind passphrase after n (whole lines)}
       (λ n. created kind passphrase after n (whole lines)) limit old new answer listing in
       inr (form, is, inr (after, names, inr (kind, of, inr (set, up, lists))))
 

@@ -164,7 +164,8 @@ module _ (short : (form : SecretForm) (passphrase : List ℕ) (after : Option Na
 
 -- what a command writes is no longer than this
 module _ (success : List ℕ → ShamirAnswer) (IsOutput : List ℕ → Result (Unit {0}) Fault → Type 0) (most : ℕ)
-    (short : (text : List ℕ) → IsOutput text (Ok tt) → length text ≤ most) (zero : (text : List ℕ) → (success text).code ≡ 0) (old new : List ℕ) (needed : ℕ) where
+    (short : (text : List ℕ) → IsOutput text (Ok tt) → length text ≤ most) (zero : (text : List ℕ) → (success text).code ≡ 0)
+    (old new : List ℕ) (needed : ℕ) where
   output_fits : GivesOutputAs success IsOutput old new (too_short needed) → length old < most
   output_fits (inl (fault, output, same, says)) = absurd (no_fault needed fault says)
   output_fits (inr (text, output, inl (fits, is, says))) = absurd (omega (arith, no_other needed (success text) says, zero text))

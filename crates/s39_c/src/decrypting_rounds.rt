@@ -41,7 +41,8 @@ pub extern "C" fn shamir_decrypt_round(
     passphrase: &[u8],
     undone: &mut [u8],
 ) -> ShamirAnswer
-    ensures { GivesDecryptedRound parameters.now round encrypted.now passphrase.now undone.old undone.new result }
+    ensures { GivesDecryptedRound parameters.now round encrypted.now passphrase.now
+        undone.old undone.new result }
 {
     let answer = round_answer(parameters, round, encrypted, passphrase, undone);
     let _ = clear_stack::<DECRYPT_ROUND>();
@@ -57,7 +58,8 @@ fn round_answer(
     passphrase: &[u8],
     undone: &mut [u8],
 ) -> ShamirAnswer
-    ensures { GivesDecryptedRound parameters.now round encrypted.now passphrase.now undone.old undone.new result }
+    ensures { GivesDecryptedRound parameters.now round encrypted.now passphrase.now
+        undone.old undone.new result }
 {
     match params_of(parameters) {
         Ok(params) => numbered_round(params, round, encrypted, passphrase, undone),

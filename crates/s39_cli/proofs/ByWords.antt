@@ -230,9 +230,11 @@ pub created_then : {R V W : Type 0} (told : Told) (remaining : R → Option (Lis
     → OnEnd ended (Delivers held contents Other filled output)
     → OnEnd ended (λ number read_to written_to. number ≢ 3
     → (line : List ℕ) × Known line number × Appends (contents output) (contents written_to) line)
-created_then told remaining held contents words creation given Other random random_left empty filled output status text Known known plain taken gives created none
+created_then told remaining held contents words creation given Other random random_left empty filled output status text Known known plain
+    taken gives created none
     is_empty is_filled NoMemory delivers = tt
-created_then told remaining held contents words creation given Other random random_left empty filled output status text Known known plain taken gives created none
+created_then told remaining held contents words creation given Other random random_left empty filled output status text Known known plain
+    taken gives created none
     is_empty is_filled (With number read_to written_to) delivers = λ no_device. (
     let done_is = subst (λ (n : ℕ). EndsAs told remaining held Elsewhere words random empty n random_left filled) none created in
     let wrote = (done_plainly told remaining held Elsewhere words random empty creation given plain gives taken 0 random_left filled done_is refl).done

@@ -93,7 +93,8 @@ module _ {R E : Type 0} (told : Told) (remaining : R → Option (List ℕ)) (con
 
       pub said_of_job : (attended shown types tells : Bool) (secret passphrase : Option (List ℕ)) (behind : R) (mid : Messages E) (ended : Ended R W)
           → (IsTyped terminals.source call.job → ⊥) → TakesValues told remaining call.files secret passphrase reader behind
-          → attended ≡ is_attended terminals → shown ≡ types_passphrase terminals.source call.files.passphrase → types ≡ types_mnemonics terminals.source call.job
+          → attended ≡ is_attended terminals → shown ≡ types_passphrase terminals.source call.files.passphrase
+          → types ≡ types_mnemonics terminals.source call.job
           → tells ≡ tells_of_none terminals call
           → Says contents old mid (line_if shown shown_line) → IsSaidOfJob remaining contents call.job attended types tells behind mid new ended
           → IsSaid told remaining contents terminals words reader old new ended

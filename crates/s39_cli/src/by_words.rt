@@ -48,8 +48,9 @@ pub fn run<S: Shelf, R: Read + Drop, W: Write + Drop, E: Write, P: Watch>(
 }
 
 /// Runs the program with any words of a creation, and then with any words of a recovery that expects no fingerprint and has the same
-/// passphrase. The input of the second run is what the first wrote, and its output and the messages go where `terminals` says. If no device of the second fails, the secret goes out, and its
-/// exit status is 0. The result says how the second run ended, or how the first ended if its status wasn't 0.
+/// passphrase. The input of the second run is what the first wrote, and its output and the messages go where `terminals` says. If no
+/// device of the second fails, the secret goes out, and its exit status is 0. The result says how the second run ended, or how the
+/// first ended if its status wasn't 0.
 pub fn create_and_recover<S: Shelf, R: Read + Drop, W: Write + Drop, E: Write>(
     shelf: &S,
     alloc: Global,

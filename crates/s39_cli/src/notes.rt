@@ -37,7 +37,8 @@ pub(crate) struct Notes {
 impl Notes {
     /// Those of a call.
     pub(crate) fn of(terminals: Terminals, call: &Call) -> Notes
-        ensures passphrase { result.types_passphrase ≡ types_passphrase terminals.source call.now.files.passphrase }
+        ensures passphrase { result.types_passphrase
+            ≡ types_passphrase terminals.source call.now.files.passphrase }
         ensures mnemonics { result.types_mnemonics ≡ types_mnemonics terminals.source call.now.job }
         ensures none { result.tells_of_none ≡ tells_of_none terminals call.now }
         ensures attended { result.is_attended ≡ is_attended terminals }

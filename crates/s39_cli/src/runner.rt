@@ -95,8 +95,8 @@ impl<R: Drop, W: Drop> Ended<R, W> {
 /// If the words name files for values, the program reads these values first: those in files of `shelf`, and then those in the
 /// first lines of `input`. The file of random bytes is read once the plan is judged. Results and help go to `output`, each line as soon
 /// as it is known. A fault is a line on `errors`, where the text of a refused command line goes too, and what a person at a
-/// terminal is told. Each time that a drill has written the line of a quorum, `watch` is told how many it has listed. The program takes all its memory before it reads `input`. Only lines that hold values are read before that. A
-/// failing `errors` changes no status.
+/// terminal is told. Each time that a drill has written the line of a quorum, `watch` is told how many it has listed. The program takes
+/// all its memory before it reads `input`. Only lines that hold values are read before that. A failing `errors` changes no status.
 pub fn program<S: Shelf, R: Read + Drop, W: Write + Drop, E: Write, P: Watch>(
     shelf: &S,
     alloc: Global,

@@ -100,7 +100,8 @@ create_filled rows (inr (inr (inr (inl drill)))) = absurd (other_name (codes "cr
 create_filled rows (inr (inr (inr (inr (inl status))))) = absurd (other_name (codes "create") (codes "status") refl (same_entered _ _ status.1).0)
 create_filled rows (inr (inr (inr (inr (inr (inl reissue)))))) = absurd (other_name (codes "create") (codes "reissue") refl (same_entered _ _ reissue.1).0)
 create_filled rows (inr (inr (inr (inr (inr (inr (inl repair))))))) = absurd (other_name (codes "create") (codes "repair") refl (same_entered _ _ repair.1).0)
-create_filled rows (inr (inr (inr (inr (inr (inr (inr (inl resplit)))))))) = absurd (other_name (codes "create") (codes "resplit") refl (same_entered _ _ resplit.1).0)
+create_filled rows (inr (inr (inr (inr (inr (inr (inr (inl resplit)))))))) =
+    absurd (other_name (codes "create") (codes "resplit") refl (same_entered _ _ resplit.1).0)
 create_filled rows (inr (inr (inr (inr (inr (inr (inr (inr none)))))))) = absurd none
 
 -- and those that enter `recover`
@@ -113,7 +114,8 @@ recover_filled rows (inr (inr (inr (inl drill)))) = absurd (other_name (codes "r
 recover_filled rows (inr (inr (inr (inr (inl status))))) = absurd (other_name (codes "recover") (codes "status") refl (same_entered _ _ status.1).0)
 recover_filled rows (inr (inr (inr (inr (inr (inl reissue)))))) = absurd (other_name (codes "recover") (codes "reissue") refl (same_entered _ _ reissue.1).0)
 recover_filled rows (inr (inr (inr (inr (inr (inr (inl repair))))))) = absurd (other_name (codes "recover") (codes "repair") refl (same_entered _ _ repair.1).0)
-recover_filled rows (inr (inr (inr (inr (inr (inr (inr (inl resplit)))))))) = absurd (other_name (codes "recover") (codes "resplit") refl (same_entered _ _ resplit.1).0)
+recover_filled rows (inr (inr (inr (inr (inr (inr (inr (inl resplit)))))))) =
+    absurd (other_name (codes "recover") (codes "resplit") refl (same_entered _ _ resplit.1).0)
 recover_filled rows (inr (inr (inr (inr (inr (inr (inr (inr none)))))))) = absurd none
 
 -- and those that enter `drill`
@@ -126,7 +128,8 @@ drill_filled rows (inr (inr (inr (inl drill)))) = subst (IsFilled drill_rules) (
 drill_filled rows (inr (inr (inr (inr (inl status))))) = absurd (other_name (codes "drill") (codes "status") refl (same_entered _ _ status.1).0)
 drill_filled rows (inr (inr (inr (inr (inr (inl reissue)))))) = absurd (other_name (codes "drill") (codes "reissue") refl (same_entered _ _ reissue.1).0)
 drill_filled rows (inr (inr (inr (inr (inr (inr (inl repair))))))) = absurd (other_name (codes "drill") (codes "repair") refl (same_entered _ _ repair.1).0)
-drill_filled rows (inr (inr (inr (inr (inr (inr (inr (inl resplit)))))))) = absurd (other_name (codes "drill") (codes "resplit") refl (same_entered _ _ resplit.1).0)
+drill_filled rows (inr (inr (inr (inr (inr (inr (inr (inl resplit)))))))) =
+    absurd (other_name (codes "drill") (codes "resplit") refl (same_entered _ _ resplit.1).0)
 drill_filled rows (inr (inr (inr (inr (inr (inr (inr (inr none)))))))) = absurd none
 
 -- and those that enter `reissue`
@@ -139,7 +142,8 @@ reissue_filled rows (inr (inr (inr (inl drill)))) = absurd (other_name (codes "r
 reissue_filled rows (inr (inr (inr (inr (inl status))))) = absurd (other_name (codes "reissue") (codes "status") refl (same_entered _ _ status.1).0)
 reissue_filled rows (inr (inr (inr (inr (inr (inl reissue)))))) = subst (IsFilled reissue_rules) (sym (same_entered _ _ reissue.1).1) reissue.2
 reissue_filled rows (inr (inr (inr (inr (inr (inr (inl repair))))))) = absurd (other_name (codes "reissue") (codes "repair") refl (same_entered _ _ repair.1).0)
-reissue_filled rows (inr (inr (inr (inr (inr (inr (inr (inl resplit)))))))) = absurd (other_name (codes "reissue") (codes "resplit") refl (same_entered _ _ resplit.1).0)
+reissue_filled rows (inr (inr (inr (inr (inr (inr (inr (inl resplit)))))))) =
+    absurd (other_name (codes "reissue") (codes "resplit") refl (same_entered _ _ resplit.1).0)
 reissue_filled rows (inr (inr (inr (inr (inr (inr (inr (inr none)))))))) = absurd none
 
 -- and those that enter `resplit`

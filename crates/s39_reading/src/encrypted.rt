@@ -115,8 +115,8 @@ pub fn decrypt_secret(
 
 /// An input has exactly one encrypted secret with its parameters, or one fault.
 pub fn one_encrypted_secret()
-    ensures once { (input : Input) (result other : Result (AnyParams × List ℕ) AnyFault) → IsEncryptedIn input result
-        → IsEncryptedIn input other → result ≡ other }
+    ensures once { (input : Input) (result other : Result (AnyParams × List ℕ) AnyFault)
+        → IsEncryptedIn input result → IsEncryptedIn input other → result ≡ other }
     ensures exists { (input : Input)
         → (result : Result (AnyParams × List ℕ) AnyFault) × IsEncryptedIn input result }
 {

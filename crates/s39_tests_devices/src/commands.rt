@@ -49,7 +49,8 @@ pub enum Command {
     Repair,
 }
 
-/// What a command answers (how many mismatches a drill has, 1 if two mnemonics fit a line, and otherwise 0), how many calls of the reader and of the writer failed, and the devices.
+/// What a command answers (how many mismatches a drill has, 1 if two mnemonics fit a line, and otherwise 0), how many calls of the
+/// reader and of the writer failed, and the devices.
 #[derive(Drop)]
 pub struct Outcome<R, W> {
     pub answer: Result<u32, Told>,

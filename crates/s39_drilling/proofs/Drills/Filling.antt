@@ -225,7 +225,8 @@ answered (Ok listing) = Ok listing
 answered (Err short) = Err (SliceTooShort short)
 
 module _ (none : (set : List ShareFields) (given : Option Names) (limit : ℕ) → HasNoQuorumAfter set given → IsListing set given limit [])
-    (form : SecretForm) (passphrase : List ℕ) (after : Option Names) (set : List ShareFields) (next : Option Names) (starts : StartsAt set after next) (limit : ℕ) (old new : List ℕ) where
+    (form : SecretForm) (passphrase : List ℕ) (after : Option Names) (set : List ShareFields)
+    (next : Option Names) (starts : StartsAt set after next) (limit : ℕ) (old new : List ℕ) where
   -- the set is drilled so
   abbrev Writes : ℕ → List ℕ → Result Done Fault → Type 0
   Writes n text answer = WritesDrillOf form passphrase after n set (text, answer)

@@ -21,7 +21,8 @@ returns-clause-resplit c =
     let plan = c.args.plan.now in
     on_ok_weaker c.create_from_encrypted.result
     (set_gives c.args.set.now plan.group_threshold plan.groups.items c.args.random.now c.in_ok-quorum.quorum c.params_of-old.result
-    c.in_ok-encrypted.encrypted.items c.in_ok-quorum.ensures.first c.params_of-old.ensures c.in_ok-encrypted.ensures.combination (Ok c.create_from_encrypted.new.out))
+    c.in_ok-encrypted.encrypted.items c.in_ok-quorum.ensures.first c.params_of-old.ensures c.in_ok-encrypted.ensures.combination
+    (Ok c.create_from_encrypted.new.out))
     c.create_from_encrypted.ensures.created
 
 pub returns-clause-refused : goal.returns-clause-refused

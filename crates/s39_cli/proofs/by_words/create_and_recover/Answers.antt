@@ -20,7 +20,9 @@ returns-else-status-ne0-clause-recovered g c plan exponent extendable form given
     (λ bytes line number creates recovers. c.created_jobs_recover.ensures plan exponent extendable form secret (text_of None given.passphrase)
     (text_of None again.secret) (whole bytes) text line number creates
     (subst (λ (p : List ℕ). IsOutcome (Recover form None) (text_of None again.secret) p (whole text) line number) alike recovers))
-    (record { awaits_none = λ awaits. awaits; done_with = λ x is. is }) taken gives c.in-With.ensures.ends c.if-status-ne0.false (ap (λ (items : List ℕ). Some items) c.new-backup.ensures.items) refl
+    (record { awaits_none = λ awaits. awaits; done_with = λ x is. is }) taken gives c.in-With.ensures.ends c.if-status-ne0.false
+    (ap (λ (items : List ℕ). Some items) c.new-backup.ensures.items) refl
     c.program-in-With.result
     (by_words.run_plainly told (λ queue. Some queue.items) g.W.Write.contents Elsewhere (words c.args.recovering.now) c.in-With.backup c.args.output
-    (Recover form None) again (record { awaits_none = λ awaits. awaits; done_with = λ x is. is }) also_taken also_gives tt (λ typed. typed) c.program-in-With.result c.program-in-With.ensures.ends)
+    (Recover form None) again (record { awaits_none = λ awaits. awaits; done_with = λ x is. is })
+    also_taken also_gives tt (λ typed. typed) c.program-in-With.result c.program-in-With.ensures.ends)

@@ -36,6 +36,7 @@ returns-clause-said g c =
 
 pub returns-clause-seen : goal.returns-clause-seen
 returns-clause-seen g c =
-    seen_behind g.P.Watch.sees g.R.Read.remaining c.new-reader.result.device c.args.work.now (g.W.Write.contents c.into_inner.result.output) (g.W.Write.contents c.flushed-answer.result.1)
+    seen_behind g.P.Watch.sees g.R.Read.remaining c.new-reader.result.device c.args.work.now
+    (g.W.Write.contents c.into_inner.result.output) (g.W.Write.contents c.flushed-answer.result.1)
     c.args.watch.now c.run_told-answer.new.watch c.args.input c.new-reader.ensures.device c.run_told-answer.result c.flushed-answer.result.0
     c.run_told-answer.ensures.seen c.flushed-answer.ensures.kept

@@ -16,7 +16,8 @@ returns-in-Err-clause-answer c =
     let words = map (λ (word : Bor (List ℕ)). word.now) c.args.words.now in
     let a = app_of c.in_ok-command.command in
     answer_by_kind c.no_job.result (kind_of c.in-Err.error) a words c.in_ok-command.ensures
-    (subst (AnswersKind c.no_job.result (kind_of c.in-Err.error)) (sym (length-map c.args.words.now (λ (word : Bor (List ℕ)). word.now))) c.no_job.ensures.answer)
+    (subst (AnswersKind c.no_job.result (kind_of c.in-Err.error))
+    (sym (length-map c.args.words.now (λ (word : Bor (List ℕ)). word.now))) c.no_job.ensures.answer)
     (c.in-Err.ensures.kinds (known_faults a c.in_ok-command.ensures)) c.in-Err.ensures.passes (c.says_help.ensures.unsaid c.if-says_help.false)
 
 pub job_of-requires : goal.job_of-requires

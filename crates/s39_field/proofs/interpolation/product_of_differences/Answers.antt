@@ -26,7 +26,8 @@ loop-i-preserved c =
         | then-i-except w ↦
             w.product-is
             ∙ w.times-product.ensures
-            ∙ ap₂ (product_modulo byte_modulus) c.loop-i.invariant.product_is (w.from.ensures ∙ c.add-difference.ensures.sum ∙ ap (bit_xor x) c.index-places-i.is)
+            ∙ ap₂ (product_modulo byte_modulus) c.loop-i.invariant.product_is
+            (w.from.ensures ∙ c.add-difference.ensures.sum ∙ ap (bit_xor x) c.index-places-i.is)
             ∙ sym (differences-more byte_field byte_field_is_field x places i c.args.except place below w.if-i-except.true)
         | else-i-except w ↦
             w.product-is

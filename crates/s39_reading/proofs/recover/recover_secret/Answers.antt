@@ -10,7 +10,8 @@ returns-in_err-set-clause-refused c =
 
 pub returns-clause-secret : goal.returns-clause-secret
 returns-clause-secret c =
-    IfOk-weaker c.recover_set.result _ _ (λ secret so. gives c.in_ok-set.set c.in_ok-set.ensures.checked (gives secret.items so refl)) c.recover_set.ensures.secret
+    IfOk-weaker c.recover_set.result _ _ (λ secret so. gives c.in_ok-set.set c.in_ok-set.ensures.checked (gives secret.items so refl))
+    c.recover_set.ensures.secret
 
 pub returns-clause-refused : goal.returns-clause-refused
 returns-clause-refused c =

@@ -109,7 +109,8 @@ returns-in-Resplit-clause-runs g c =
 
 pub returns-in-Show-clause-said : goal.returns-in-Show-clause-said
 returns-in-Show-clause-said g c =
-    unsaid_work g.R.Read.remaining g.E.Write.contents c.args.input.now.device c.args.self.now work.Show c.args.notes.is_attended c.args.notes.tells_of_none c.where_done.result c.args.errors.now
+    unsaid_work g.R.Read.remaining g.E.Write.contents c.args.input.now.device c.args.self.now work.Show
+    c.args.notes.is_attended c.args.notes.tells_of_none c.where_done.result c.args.errors.now
     c.in-Show.is (λ _. refl)
 
 pub returns-in-Create-clause-said : goal.returns-in-Create-clause-said
@@ -172,7 +173,8 @@ returns-in-Create-clause-seen g c =
 
 pub returns-in-Recover-clause-seen : goal.returns-in-Recover-clause-seen
 returns-in-Recover-clause-seen g c =
-    unseen_work g.P.Watch.sees g.R.Read.remaining c.args.input.now.device c.args.self.now (work.Recover c.in-Recover.passphrase c.in-Recover.form c.in-Recover.expected)
+    unseen_work g.P.Watch.sees g.R.Read.remaining c.args.input.now.device c.args.self.now
+    (work.Recover c.in-Recover.passphrase c.in-Recover.form c.in-Recover.expected)
     c.where_done-in-Recover.result c.args.watch.now c.in-Recover.is (λ _. refl)
 
 pub returns-in-Status-clause-seen : goal.returns-in-Status-clause-seen
