@@ -531,6 +531,7 @@ typedef struct shamir_group {
     uint8_t threshold; /* the member threshold */
     uint16_t members;  /* bit M is 1 if member M is among the mnemonics */
 } shamir_group;
+
 SHAMIR_INLINE size_t shamir_groups_of(const char *text, size_t text_bytes, shamir_group *groups)
 {
     /* A line is `group G members N of T NAMES`. Its numbers are G, N, T, and those of each name, group before member. */

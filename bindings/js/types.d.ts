@@ -28,7 +28,7 @@ export interface Codes {
   GROUP_THRESHOLD: 15;
   /** No mnemonic fits a line of marks. */
   NO_MNEMONIC: 17;
-  /** The checksum is wrong; first, second: see `repair`. */
+  /** The checksum is wrong; first: see `repair`. */
   WRONG_WORD: 18;
   /** More than three places of a line are open; first: how many are. */
   UNREADABLE_WORDS: 19;

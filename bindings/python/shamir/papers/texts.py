@@ -105,7 +105,7 @@ OWN: Dict[str, str] = {
     "new.exponent.long": "With the iteration exponent {exponent}, each recovery takes about {time} on this machine, and much longer on a hardware wallet. Is that right?",
     "new.passphrase": "Passphrase (it doesn't show; Enter alone: none):",
     "new.passphrase.again": "The same again:",
-    "new.passphrase.long": "A new passphrase has at most {most} bytes, as the program shamir reads no longer one from a file.",
+    "new.passphrase.long": "A new passphrase has at most {most} bytes, because the program shamir can't read more from a file.",
     "new.passphrase.none": "No passphrase: is that right (the answer doesn't show)?",
     "new.write": "Enter: I have written it. The words are cleared then.",
     "new.write.plain": "Enter: I have written it. The words stay in this terminal until you close it.",
