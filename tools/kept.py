@@ -1,7 +1,7 @@
 """The wrong bodies that passed in earlier runs of tools/edits on this machine.
 
 A pass is kept under a sum of all that it rests on: the edit, the sources of its crate and of the crates below, their lines of
-crates.txt, the version of the kit, and the tools that judge. So a pass counts only as long as all of these are the same. The passes
+crates.txt, what the kit says of itself, and the tools that judge. So a pass counts only as long as all of these are the same. The passes
 are in ~/.cache/shamir/edits, in one small file for each crate and sum. Without this folder, nothing is kept.
 """
 import contextlib
@@ -38,9 +38,11 @@ def sources(name: str) -> str:
 
 @functools.cache
 def judges() -> str:
-    """Returns a sum of the kit's version and of the tools that judge, as they were when the tool began."""
-    version = subprocess.run([os.environ.get("RT", "rt"), "version"], capture_output=True, check=True).stdout
-    return sum_of([version, *((TOOLS / it).read_bytes() for it in JUDGES)])
+    """Returns a sum of what the kit says of itself and of the tools that judge, as they were when the tool began."""
+    rt = os.environ.get("RT", "rt")
+    version, page = (subprocess.run([rt, it], capture_output=True, check=True).stdout for it in ("version", "doc"))
+    parts = sorted(pathlib.Path(os.fsdecode(page.strip())).parent.glob("WHAT*"))
+    return sum_of([version, *(it.read_bytes() for it in parts), *((TOOLS / it).read_bytes() for it in JUDGES)])
 
 
 def sum_over(crate: str) -> str:
@@ -74,6 +76,12 @@ class Passes:
                 FOLDER.mkdir(parents=True, exist_ok=True)
                 with open(self.file, "ab", buffering=0) as file:
                     file.write("".join(f"{'gate' if in_gate else 'check'} {sum_of_edit(it)}\n" for it in edits).encode())
+
+    def forget(self) -> None:
+        """Forgets what passed, and keeps nothing more: the prover refuses a right body, too."""
+        self.sum = ""
+        with contextlib.suppress(OSError):
+            self.file.unlink()
 
 
 def clear() -> None:

@@ -1,8 +1,11 @@
 """The kit's command `rattle`, for a crate of this repository over the crates that it uses as they are in out/rlib."""
+import contextlib
 import functools
 import json
 import os
 import pathlib
+import re
+import shutil
 import subprocess
 
 import crates
@@ -11,12 +14,44 @@ import kept
 ROOT = pathlib.Path(__file__).resolve().parent.parent
 # A check takes one to two and a half gigabytes.
 BYTES_OF_A_CHECK = 3_000_000_000
+GROUP = pathlib.Path("/sys/fs/cgroup")
+
+
+def of_group(file: str, pattern: str) -> list[int]:
+    """Returns the numbers that a file of the control group has so, or none if nothing is limited there."""
+    with contextlib.suppress(OSError):
+        found = re.search(pattern, (GROUP / file).read_text(), re.MULTILINE)
+        return [int(it) for it in found.groups()] if found else []
+    return []
 
 
 def lanes() -> int:
-    """Returns how many checks the machine can run at a time."""
+    """Returns how many checks the machine can run at a time, or the container that this runs in."""
     free = next(int(line.split()[1]) * 1024 for line in open("/proc/meminfo") if line.startswith("MemAvailable"))
-    return max(1, min(len(os.sched_getaffinity(0)), free // BYTES_OF_A_CHECK))
+    most, used = of_group("memory.max", r"^(\d+)$"), of_group("memory.stat", r"^anon (\d+)$")
+    if most and used:
+        free = min(free, most[0] - used[0])
+    processors, share = len(os.sched_getaffinity(0)), of_group("cpu.max", r"^(\d+) (\d+)$")
+    if share:
+        processors = min(processors, share[0] // share[1])
+    return max(1, min(processors, free // BYTES_OF_A_CHECK))
+
+
+def copied_file(one: str, other: str) -> None:
+    """Copies a file that a proof left. A proof itself gets a link, as `rattle` writes it anew and never into it. It does write into
+    other files."""
+    try:
+        if one.endswith(".oantt"):
+            return os.link(one, other)
+    except OSError:
+        # There are no links from one disk to another.
+        pass
+    shutil.copy2(one, other)
+
+
+def copied(folder: pathlib.Path, to: pathlib.Path) -> None:
+    """Copies what a proof left."""
+    shutil.copytree(folder, to, symlinks=True, copy_function=copied_file)
 
 
 @functools.cache
