@@ -1,4 +1,4 @@
-// Which papers may be missing, and how an owner names one. No paper says how many there are.
+// Which papers may be missing, and how an owner names one. The words don't say how many there are.
 import { MEMBERS_MAX } from "./plan.js";
 import { counted, say } from "./say.js";
 

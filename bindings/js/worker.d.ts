@@ -2,7 +2,7 @@
 export class InWorker {
     /** @param {URL} [module] Where the module of the engine is, if it isn't beside the package's files. */
     constructor(module?: URL | undefined);
-    /** Ends the worker, and with it what its memory holds. The next call starts another one. */
+    /** Ends the worker, and with it what its memory holds. Unanswered calls fail with an `AbortError`. The next call starts another worker. */
     end(): void;
     /**
      * @param {Text} plan

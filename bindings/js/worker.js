@@ -76,6 +76,7 @@ export class InWorker {
   #fail = () => {};
   /** @type {Promise<unknown>} */
   #before = Promise.resolve();
+  #ending = new AbortController();
   #module;
 
   /** @param {URL} [module] Where the module of the engine is, if it isn't beside the package's files. */
@@ -83,8 +84,15 @@ export class InWorker {
     this.#module = module?.href;
   }
 
-  /** Ends the worker, and with it what its memory holds. The next call starts another one. */
+  /** Ends the worker, and with it what its memory holds. Unanswered calls fail with an `AbortError`. The next call starts another worker. */
   end() {
+    this.#ending.abort();
+    this.#fail(this.#ending.signal.reason);
+    this.#ending = new AbortController();
+    this.#drop();
+  }
+
+  #drop() {
     this.#side?.then((side) => side.end(), () => {});
     this.#side = undefined;
   }
@@ -284,11 +292,14 @@ export class InWorker {
    * @returns {Promise<any>}
    */
   #call(name, given, signal) {
+    const ending = this.#ending.signal;
     const run = async () => {
+      ending.throwIfAborted();
       signal?.throwIfAborted();
       checkPlain(given);
       this.#side ??= started((message) => this.#take(message), (error) => this.#fail(error));
       const side = await this.#side;
+      ending.throwIfAborted();
       return this.#answer(side, { name, given, module: this.#module }, signal);
     };
     const answer = this.#before.then(run);
@@ -311,7 +322,7 @@ export class InWorker {
       };
       this.#fail = (error) => {
         signal?.removeEventListener("abort", stop);
-        this.end();
+        this.#drop();
         reject(error);
       };
       if (signal?.aborted) return stop();

@@ -22,8 +22,9 @@
  * returns for every input. Calls share no data, so any number of threads can make calls at once. The library as plain C
  * (dist/c) has this header too. There, each call but shamir_wipe takes memory from malloc, and frees it before it returns.
  *
- * A call uses at most SHAMIR_STACK_BYTES bytes of stack; the main thread has more by default. In a thread with a smaller stack,
- * a call can crash the program. Give a thread more than SHAMIR_STACK_BYTES, because its own functions use some too.
+ * A call uses at most SHAMIR_STACK_BYTES bytes of stack (as plain C far fewer); the main thread has more by default. In a thread
+ * with a smaller stack, a call can crash the program. Give a thread more than SHAMIR_STACK_BYTES, because its own functions use
+ * some too.
  *
  * A buffer is a pointer and a length in bytes. If the length is 0, the pointer isn't used and may be NULL. A pointer to a
  * struct must not be NULL. An output buffer or an output struct must not overlap any other argument. Lengths exclude any
@@ -235,9 +236,9 @@ typedef struct shamir_parameters {
 /*
  * Reads one mnemonic.
  *
- * line is the mnemonic, without its line feed. Any number of spaces, tabs and carriage returns may stand before, between and
- * after the words. Upper-case letters count as lower-case ones. A line feed in line counts as part of a word, and the call
- * refuses that word with 11.
+ * line is the mnemonic, without its line feed, in whole words. Any number of spaces, tabs and carriage returns may stand before,
+ * between and after the words. Upper-case letters count as lower-case ones. A line feed in line counts as part of a word, and the
+ * call refuses that word with 11.
  *
  * The fields go to *share, and the value goes to the start of value. written is its length, an even number from
  * SHAMIR_SECRET_BYTES_MIN to SHAMIR_SECRET_BYTES_MAX. The value is as secret as the mnemonic. If you only want the fields, let
@@ -827,8 +828,9 @@ void shamir_wipe(void *buffer, size_t buffer_bytes);
  *
  * Set lines to a buffer of lines_bytes bytes, and all other fields to 0. Then shamir_papers_add takes one mnemonic after the other,
  * and gives the answer and the text of shamir_judge. It keeps a mnemonic that isn't there yet, in lower-case words with single
- * spaces. If the buffer has no room for it, the code is 1, and the field first is the number of bytes that it takes. If a mnemonic
- * is refused, no field of the struct changes.
+ * spaces. If the buffer has no room for it, the code is 1, and the field first is the number of bytes that it takes. The code is
+ * 1, too, if text has fewer than SHAMIR_STATUS_BYTES_MAX bytes and the answer takes more. If a mnemonic is refused, no field of
+ * the struct changes.
  *
  * The field backup has the lines of the backup of the mnemonic that came last. Calls that take lines take them.
  * shamir_papers_recover calls shamir_recover with them. A NUL ends its passphrase and its fingerprint. If the fingerprint is NULL,
@@ -940,7 +942,7 @@ SHAMIR_INLINE SHAMIR_STRUCT(1) shamir_answer shamir_papers_recover(
  *
  * shamir_drill_start takes mnemonics as shamir_drill does, a passphrase and the noted fingerprint, each of which a NUL ends, and a
  * room of about 65536 bytes for parts of the listing, in which there is no secret. All of these must stay until the drill ends.
- * Every exponent is allowed.
+ * Every exponent is allowed. A fingerprint that is NULL or empty is refused with 44.
  *
  * shamir_drill_next goes on to the next quorum, and returns 1. If no quorum is left, or if the library refuses, it returns 0, and the
  * field answer says which. The refusals are those of shamir_drill. A program can stop after each quorum. A later drill goes on after

@@ -196,3 +196,18 @@ test("a signal stops a call in a worker, and the next call runs", async () => {
   await assert.rejects(shamir.words("aca", stopped.signal), { message: "stopped" });
   shamir.end();
 });
+
+test("the end of a worker ends the calls before it, and the next call runs", async () => {
+  const shamir = new InWorker(MODULE);
+  // The worker ends before it starts, while it starts, and while it computes.
+  for (const pause of [null, 0, 300]) {
+    const slow = assert.rejects(shamir.create(PLAN, SECRET, { ...KEY, exponent: 15, random: counting(26) }), { name: "AbortError" });
+    const waiting = assert.rejects(shamir.words("aca"), { name: "AbortError" });
+    if (pause === null) shamir.end();
+    else setTimeout(() => shamir.end(), pause);
+    await slow;
+    await waiting;
+    assert.deepEqual(await shamir.words("aca"), ["academic"]);
+  }
+  shamir.end();
+});
