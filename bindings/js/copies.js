@@ -69,7 +69,7 @@ export function flag(value, what) {
 
 /**
  * Refuses what isn't an object, and an object that inherits from another one than `Object.prototype`: a copy of it, as a worker gets one,
- * lacks what it inherits.
+ * lacks what it inherits. So does an object with a field that `Object.keys` doesn't list.
  * @param {unknown} options
  * @param {string} what
  */
@@ -79,6 +79,7 @@ export function plain(options, what = "the options of this call") {
   if (above !== null && !(Object.getPrototypeOf(above) === null && Object.hasOwn(above, "hasOwnProperty"))) {
     throw new TypeError(`${what} aren't in a plain object`);
   }
+  if (Reflect.ownKeys(options).length !== Object.keys(options).length) throw new TypeError(`${what} have fields that can't be listed`);
 }
 
 /**

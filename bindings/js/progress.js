@@ -25,17 +25,17 @@ const TURN_MILLISECONDS = 10;
  * @returns {AsyncGenerator<NumberedOutcome, void, void>}
  */
 export async function* drillWithProgress(engine, lines, options = {}) {
-  const given = typeof lines === "string" || lines instanceof Uint8Array ? lines : [...lines];
+  const given = typeof lines === "string" || ArrayBuffer.isView(lines) ? lines : [...lines];
   let number = 0;
   let quorums = 0n;
-  let start = Date.now();
+  let start = performance.now();
   for (const outcome of engine.drill(given, options)) {
     if (number === 0) quorums = engine.quorums(given);
     number++;
     yield { ...outcome, number, quorums };
-    if (Date.now() - start < TURN_MILLISECONDS) continue;
+    if (performance.now() - start < TURN_MILLISECONDS) continue;
     // After a long call, Node takes a timer before it looks at signals, so one turn isn't enough.
     for (let turn = 0; turn < 2; turn++) await new Promise((done) => setTimeout(done));
-    start = Date.now();
+    start = performance.now();
   }
 }

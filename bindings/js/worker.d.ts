@@ -138,10 +138,10 @@ export type Share = import("./types.js").Share;
 export type Status = import("./types.js").Status;
 export type Text = import("./types.js").Text;
 export type Side = {
-    send(message: unknown): void;
-    end(): void;
+    ask(request: unknown): Promise<any>;
+    end(reason: unknown): void;
 };
-export type Take = (message: {
+export type Answer = {
     result?: any;
     error?: unknown;
-}) => void;
+};

@@ -7,7 +7,8 @@
  *     const secret = await shamir.recover(mnemonics, { passphrase: "TREZOR" }, AbortSignal.timeout(60_000));
  *     shamir.end();
  *
- * Each call copies its arguments into the worker. Whoever clears arguments can't clear these copies: `end` drops them all.
+ * Each call copies its arguments at once, so they may change or be cleared after it. Nobody can clear the copies in the worker: `end` drops
+ * them all.
  */
 import { refusalOf } from "./clones.js";
 import { Copies, plain } from "./copies.js";
@@ -24,56 +25,118 @@ import { Copies, plain } from "./copies.js";
 /** @typedef {import("./types.js").Share} Share */
 /** @typedef {import("./types.js").Status} Status */
 /** @typedef {import("./types.js").Text} Text */
-/** @typedef {{ send(message: unknown): void, end(): void }} Side */
-/** @typedef {(message: { result?: any, error?: unknown }) => void} Take */
+/** @typedef {{ ask(request: unknown): Promise<any>, end(reason: unknown): void }} Side */
+/** @typedef {{ result?: any, error?: unknown }} Answer */
 
 const THREADS = "node:worker_threads";
 const SIDE = new URL("./worker_side.js", import.meta.url);
 
 /**
- * Starts a worker. What it answers goes to `take`, and what stops it to `fail`.
- * @param {Take} take
+ * Starts a worker. What it answers goes to `take`, and what ends it to `fail`.
+ * @param {(answer: Answer) => void} take
  * @param {(error: unknown) => void} fail
- * @returns {Promise<Side>}
+ * @returns {Promise<{ postMessage(message: unknown): void, terminate(): unknown }>}
  */
-async function started(take, fail) {
+async function newWorker(take, fail) {
   if (typeof Worker === "function") {
     const worker = new Worker(SIDE, { type: "module" });
     worker.onmessage = ({ data }) => take(data);
     worker.onerror = ({ message }) => fail(new Error(`the worker ended: ${message}`));
-    return { send: (message) => worker.postMessage(message), end: () => worker.terminate() };
+    worker.onmessageerror = () => fail(new Error("the worker's answer can't be read"));
+    return worker;
   }
   const threads = await import(THREADS);
   const worker = new threads.Worker(SIDE);
-  worker.on("message", take);
-  worker.on("error", fail);
-  return { send: (message) => worker.postMessage(message), end: () => worker.terminate() };
+  worker.on("message", take).on("error", fail).on("messageerror", fail);
+  worker.on("exit", () => fail(new Error("the worker ended")));
+  return worker;
 }
 
 /**
- * Returns lines as a text or as a list, which can be copied into a worker.
- * @param {Lines} lines
+ * Starts a worker, of which one thing is asked at a time. What it answers after its end is of no call.
+ * @param {() => void} forget is called if it ends by itself
+ * @returns {Promise<Side>}
  */
-function copyable(lines) {
-  return typeof lines === "string" || lines instanceof Uint8Array ? lines : [...lines];
+async function started(forget) {
+  const nobody = () => {};
+  /** @type {(answer: Answer) => void} */
+  let take = nobody;
+  /** @type {(error: unknown) => void} */
+  let fail = nobody;
+  const ended = (/** @type {unknown} */ error) => {
+    forget();
+    fail(error);
+  };
+  const worker = await newWorker((answer) => take(answer), ended);
+  const asked = (/** @type {unknown} */ request) =>
+    new Promise((resolve, reject) => {
+      take = ({ result, error }) => (error === undefined ? resolve(result) : reject(refusalOf(error)));
+      fail = reject;
+      worker.postMessage(request);
+    });
+  return {
+    ask: (request) => asked(request).finally(() => ([take, fail] = [nobody, nobody])),
+    end: (reason) => {
+      worker.terminate();
+      fail(reason);
+    },
+  };
 }
 
 /**
- * Refuses options, or an encrypted secret, whose copy in the worker would lack what they inherit.
- * @param {unknown[]} given
+ * Returns a copy of an argument, whose arrays have buffers of their own. Options, or an encrypted secret, whose copy would lack what they
+ * inherit are refused. What the engine refuses stays as it is.
+ * @param {Copies} own
+ * @param {any} it
+ * @returns {any}
  */
-function checkPlain(given) {
-  for (const it of given) if (typeof it === "object" && it !== null && !Array.isArray(it) && !ArrayBuffer.isView(it)) plain(it);
+function copiedIn(own, it) {
+  if (typeof it !== "object" || it === null || it instanceof String) return it;
+  if (ArrayBuffer.isView(it)) return own.data(it, "an argument");
+  if (Symbol.iterator in it) return Array.from(it, (part) => copiedIn(own, part));
+  plain(it);
+  return Object.fromEntries(Object.entries(it).map(([name, part]) => [name, copiedIn(own, part)]));
+}
+
+/**
+ * Settles as a promise does, or fails as soon as a signal aborts.
+ * @param {Promise<any>} answer
+ * @param {AbortSignal} signal
+ */
+async function unlessAborted(answer, signal) {
+  let stop = () => {};
+  const aborted = new Promise((_, reject) => {
+    stop = () => reject(signal.reason);
+    signal.addEventListener("abort", stop);
+    if (signal.aborted) stop();
+  });
+  try {
+    return await Promise.race([answer, aborted]);
+  } finally {
+    signal.removeEventListener("abort", stop);
+  }
+}
+
+/**
+ * Yields outcomes. If whoever takes them leaves, it clears the secrets of the others.
+ * @param {Outcome[]} outcomes
+ */
+function* untilLeft(outcomes) {
+  const left = [...outcomes];
+  try {
+    for (const outcome of outcomes) {
+      left.shift();
+      yield outcome;
+    }
+  } finally {
+    for (const { secret } of left) secret?.fill(0);
+  }
 }
 
 /** The engine in a worker of its own, which starts at the first call. Calls run one after the other. */
 export class InWorker {
   /** @type {Promise<Side> | undefined} */
   #side;
-  /** @type {Take} */
-  #take = () => {};
-  /** @type {(error: unknown) => void} */
-  #fail = () => {};
   /** @type {Promise<unknown>} */
   #before = Promise.resolve();
   #ending = new AbortController();
@@ -87,13 +150,23 @@ export class InWorker {
   /** Ends the worker, and with it what its memory holds. Unanswered calls fail with an `AbortError`. The next call starts another worker. */
   end() {
     this.#ending.abort();
-    this.#fail(this.#ending.signal.reason);
+    this.#drop(this.#ending.signal.reason);
     this.#ending = new AbortController();
-    this.#drop();
   }
 
-  #drop() {
-    this.#side?.then((side) => side.end(), () => {});
+  /** @returns {Promise<Side>} */
+  #start() {
+    const forget = () => {
+      if (side === this.#side) this.#side = undefined;
+    };
+    const side = started(forget);
+    side.catch(forget);
+    return side;
+  }
+
+  /** @param {unknown} reason what a call that runs fails with */
+  #drop(reason) {
+    this.#side?.then((side) => side.end(reason), () => {});
     this.#side = undefined;
   }
 
@@ -115,7 +188,7 @@ export class InWorker {
    * @returns {Promise<Uint8Array>}
    */
   recover(lines, options = {}, signal) {
-    return this.#call("recover", [copyable(lines), options], signal);
+    return this.#call("recover", [lines, options], signal);
   }
 
   /**
@@ -124,7 +197,7 @@ export class InWorker {
    * @returns {Promise<EncryptedSecret>}
    */
   encrypted(lines, signal) {
-    return this.#call("encrypted", [copyable(lines)], signal);
+    return this.#call("encrypted", [lines], signal);
   }
 
   /**
@@ -177,13 +250,18 @@ export class InWorker {
    * @returns {AsyncGenerator<Outcome, void, void>}
    */
   async *drill(lines, options = {}, signal) {
-    const given = copyable(lines);
-    plain(options);
-    for (let after = options.after, isEnd = false; !isEnd; ) {
-      const part = await this.#call("drill", [given, { ...options, after }], signal);
-      yield* part.outcomes;
-      isEnd = part.isEnd;
-      after = part.outcomes.at(-1)?.names ?? after;
+    const own = new Copies();
+    try {
+      plain(options);
+      const [given, kept] = copiedIn(own, [lines, options]);
+      for (let after = kept.after, isEnd = false; !isEnd; ) {
+        const part = await this.#call("drill", [given, { ...kept, after }], signal);
+        isEnd = part.isEnd;
+        after = part.outcomes.at(-1)?.names ?? after;
+        yield* untilLeft(part.outcomes);
+      }
+    } finally {
+      own.clear();
     }
   }
 
@@ -193,7 +271,7 @@ export class InWorker {
    * @returns {Promise<Status>}
    */
   status(lines, signal) {
-    return this.#call("status", [copyable(lines)], signal);
+    return this.#call("status", [lines], signal);
   }
 
   /**
@@ -203,7 +281,7 @@ export class InWorker {
    * @returns {Promise<Judgement>}
    */
   judge(lines, mnemonic, signal) {
-    return this.#call("judge", [copyable(lines), mnemonic], signal);
+    return this.#call("judge", [lines, mnemonic], signal);
   }
 
   /**
@@ -212,7 +290,7 @@ export class InWorker {
    * @returns {Promise<bigint>}
    */
   quorums(lines, signal) {
-    return this.#call("quorums", [copyable(lines)], signal);
+    return this.#call("quorums", [lines], signal);
   }
 
   /**
@@ -223,7 +301,7 @@ export class InWorker {
    * @returns {Promise<string[]>}
    */
   reissue(plan, names, lines, signal) {
-    return this.#call("reissue", [plan, names, copyable(lines)], signal);
+    return this.#call("reissue", [plan, names, lines], signal);
   }
 
   /**
@@ -234,7 +312,7 @@ export class InWorker {
    * @returns {Promise<string[]>}
    */
   resplit(plan, lines, options = {}, signal) {
-    return this.#call("resplit", [plan, copyable(lines), options], signal);
+    return this.#call("resplit", [plan, lines, options], signal);
   }
 
   /**
@@ -291,42 +369,25 @@ export class InWorker {
    * @param {AbortSignal | undefined} signal
    * @returns {Promise<any>}
    */
-  #call(name, given, signal) {
+  async #call(name, given, signal) {
+    const own = new Copies();
     const ending = this.#ending.signal;
+    const stop = () => this.#drop(signal?.reason);
     const run = async () => {
-      ending.throwIfAborted();
-      signal?.throwIfAborted();
-      checkPlain(given);
-      this.#side ??= started((message) => this.#take(message), (error) => this.#fail(error));
-      const side = await this.#side;
-      ending.throwIfAborted();
-      return this.#answer(side, { name, given, module: this.#module }, signal);
+      try {
+        for (const it of [ending, signal]) it?.throwIfAborted();
+        const side = await (this.#side ??= this.#start());
+        for (const it of [ending, signal]) it?.throwIfAborted();
+        signal?.addEventListener("abort", stop);
+        return await side.ask({ name, given: copies, module: this.#module });
+      } finally {
+        signal?.removeEventListener("abort", stop);
+        own.clear();
+      }
     };
+    const copies = copiedIn(own, given);
     const answer = this.#before.then(run);
-    this.#before = answer.catch(() => {});
-    return answer;
-  }
-
-  /**
-   * @param {Side} side
-   * @param {unknown} request
-   * @param {AbortSignal | undefined} signal
-   */
-  #answer(side, request, signal) {
-    return new Promise((resolve, reject) => {
-      const stop = () => this.#fail(signal?.reason);
-      signal?.addEventListener("abort", stop, { once: true });
-      this.#take = ({ result, error }) => {
-        signal?.removeEventListener("abort", stop);
-        return error === undefined ? resolve(result) : reject(refusalOf(error));
-      };
-      this.#fail = (error) => {
-        signal?.removeEventListener("abort", stop);
-        this.#drop();
-        reject(error);
-      };
-      if (signal?.aborted) return stop();
-      side.send(request);
-    });
+    this.#before = answer.then(() => {}, () => {});
+    return signal === undefined ? answer : unlessAborted(answer, signal);
   }
 }

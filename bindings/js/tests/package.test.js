@@ -1,6 +1,10 @@
 /** What the package adds to the engine: its loader, refusals that were cloned, and the engine in a worker. */
 import assert from "node:assert/strict";
+import { copyFile, mkdtemp, rm } from "node:fs/promises";
+import { tmpdir } from "node:os";
+import { join } from "node:path";
 import test from "node:test";
+import { pathToFileURL } from "node:url";
 import { Code, drillWithProgress, open, Papers, Refusal, refusalOf } from "../index.js";
 import { InWorker } from "../worker.js";
 import { CONFLICTING, ENCRYPTED, EXTENDABLE, FIVE, FIVE_QUORUMS, ONE, PLAN, SECRET, SPLIT_ANEW, TWO, TWO_SECRET } from "./given.js";
@@ -194,6 +198,64 @@ test("a signal stops a call in a worker, and the next call runs", async () => {
   const stopped = new AbortController();
   stopped.abort(new Error("stopped"));
   await assert.rejects(shamir.words("aca", stopped.signal), { message: "stopped" });
+  shamir.end();
+});
+
+test("a late answer of a worker is of no call", async () => {
+  const shamir = new InWorker(MODULE);
+  for (let round = 0; round < 5; round++) {
+    assert.deepEqual(await shamir.words("aca"), ["academic"]);
+    const stopped = new AbortController();
+    const first = assert.rejects(shamir.recover(FIVE, KEY, stopped.signal), { message: "stopped" });
+    await new Promise((sent) => setTimeout(sent));
+    // Meanwhile the worker answers.
+    for (const end = Date.now() + 200; Date.now() < end; );
+    stopped.abort(new Error("stopped"));
+    await first;
+  }
+  shamir.end();
+});
+
+test("a call in a worker copies its arguments at once", async () => {
+  const shamir = new InWorker(MODULE);
+  const [secret, random, lines] = [SECRET.slice(), counting(26), FIVE.map((line) => new TextEncoder().encode(line))];
+  const calls = [shamir.create(PLAN, secret, { ...KEY, random }), shamir.recover(lines, KEY), shamir.drill(lines, KEY).next()];
+  for (const it of [secret, random, ...lines]) it.fill(0);
+  const [made, recovered, drilled] = await Promise.all(calls);
+  assert.deepEqual([made, recovered, drilled.value.secret], [FIVE, SECRET, SECRET]);
+  shamir.end();
+});
+
+test("a signal stops its own call alone, also while it waits", async () => {
+  const shamir = new InWorker(MODULE);
+  const stopped = new AbortController();
+  await assert.rejects(shamir.recover(FIVE, { passphrase: () => 1 }, stopped.signal), { name: "DataCloneError" });
+  const next = shamir.create(PLAN, SECRET, { ...KEY, random: counting(26) });
+  stopped.abort();
+  assert.deepEqual(await next, FIVE);
+  const slow = assert.rejects(shamir.create(PLAN, SECRET, { ...KEY, exponent: 15, random: counting(26) }), { name: "AbortError" });
+  await assert.rejects(shamir.words("aca", AbortSignal.timeout(20)), { name: "TimeoutError" });
+  shamir.end();
+  await slow;
+});
+
+test("a worker tries to open its module again", async () => {
+  const folder = await mkdtemp(join(tmpdir(), "shamir-"));
+  const late = pathToFileURL(join(folder, "late.wasm"));
+  const shamir = new InWorker(late);
+  await assert.rejects(shamir.words("aca"), /ENOENT/);
+  await copyFile(MODULE, late);
+  assert.deepEqual(await shamir.words("aca"), ["academic"]);
+  shamir.end();
+  await rm(folder, { recursive: true });
+});
+
+test("an option that can't be listed is refused", async () => {
+  const hidden = Object.defineProperty({}, "passphrase", { value: "TREZOR" });
+  const engine = await open(MODULE);
+  assert.throws(() => engine.recover(FIVE, hidden), TypeError);
+  const shamir = new InWorker(MODULE);
+  await assert.rejects(shamir.recover(FIVE, hidden), TypeError);
   shamir.end();
 });
 
