@@ -78,7 +78,8 @@ VERSION = 1.0.0
 # The number in this name increases whenever a program linked against an earlier version would break. It is also the first
 # number of VERSION.
 SONAME = libshamir.so.1
-# shamir.pc names these paths, so they must not depend on the folder in which make runs.
+# shamir.pc names these paths, so they must not depend on the folder in which make runs. To `abspath`, a space ends a path.
+$(foreach it,PREFIX LIBDIR INCLUDEDIR,$(if $(word 2,$($(it))),$(error $(it) must have no space)))
 override PREFIX := $(abspath $(PREFIX))
 override LIBDIR := $(abspath $(LIBDIR))
 override INCLUDEDIR := $(abspath $(INCLUDEDIR))
@@ -405,11 +406,13 @@ install-page:
 	$(INSTALL) -d "$(DESTDIR)$(PAGEDIR)"
 	$(INSTALL) -m 644 shamir.html dist/heirs.html "$(DESTDIR)$(PAGEDIR)"
 
-# The command finds its modules and the library by the folders that are given here.
+# The command finds its modules and the library by the folders that are given here. With -m, Python would take modules from the current
+# folder, too.
+RUN_PAPERS = import sys; sys.path[:] = filter(None, sys.path); from shamir.papers.__main__ import main; main()
 install-papers:
 	$(INSTALL) -d "$(DESTDIR)$(BINDIR)" "$(DESTDIR)$(MANDIR)/man1" "$(DESTDIR)$(BASHDIR)" "$(DESTDIR)$(ZSHDIR)" "$(DESTDIR)$(FISHDIR)" \
 		"$(DESTDIR)$(PYTHONDIR)/shamir/command" "$(DESTDIR)$(PYTHONDIR)/shamir/papers"
-	printf '#!/bin/sh\nexec env "SHAMIR_LIBRARY=%s" "PYTHONPATH=%s" python3 -B -m shamir.papers "$$@"\n' "$(LIBDIR)/$(SONAME)" "$(PYTHONDIR)" > "$(DESTDIR)$(BINDIR)/shamir-papers"
+	printf '#!/bin/sh\nexec env "SHAMIR_LIBRARY=%s" "PYTHONPATH=%s" python3 -B -c "%s" "$$@"\n' "$(LIBDIR)/$(SONAME)" "$(PYTHONDIR)" "$(RUN_PAPERS)" > "$(DESTDIR)$(BINDIR)/shamir-papers"
 	chmod 755 "$(DESTDIR)$(BINDIR)/shamir-papers"
 	$(INSTALL) -m 644 bindings/python/shamir/*.py bindings/python/shamir/py.typed "$(DESTDIR)$(PYTHONDIR)/shamir"
 	$(INSTALL) -m 644 bindings/python/shamir/command/*.py "$(DESTDIR)$(PYTHONDIR)/shamir/command"

@@ -3,9 +3,9 @@
 #
 #     sh examples/ask.sh FILE
 #
-# Only you and root can read FILE. If the passphrase is empty, or if the two differ, there is no FILE afterwards, so that a
-# command that names it is refused. Nothing stays in a variable of your shell.
-set -eu
+# Only you and root can read FILE. If the passphrase is empty, if the two differ, or if it can't be written, there is no FILE
+# afterwards, so that a command that names it is refused. Nothing stays in a variable of your shell.
+set -euC
 
 ask() {
     printf '%s:' "$1" >&2
@@ -27,6 +27,8 @@ if [ -t 0 ]; then
     kept=$(stty -g)
     trap 'stty "$kept"' EXIT
     trap 'echo >&2; exit 130' HUP INT QUIT TERM
+    # After Ctrl-Z, the shell would show what is typed.
+    trap '' TSTP
     stty -echo
 fi
 ask 'passphrase'
@@ -34,4 +36,8 @@ ask 'passphrase'
 passphrase=$answer
 ask 'the same again'
 [ "$answer" = "$passphrase" ] || refuse 'The two differ'
-printf '%s' "$passphrase" > "$1"
+# With -C, nothing is written into a file that somebody else made meanwhile.
+printf '%s' "$passphrase" > "$1" || {
+    rm -f -- "$1"
+    refuse "$1 can't be written"
+}

@@ -23,16 +23,18 @@ import { askWallet } from "./wallet.js";
 const STEPS_MOST = 8;
 
 /**
- * Changes the plan.
+ * Changes the plan. Returns whether the owner goes back from the first screen.
  *
  * @param {Desk} desk
+ * @returns {Promise<"end" | "back">}
  */
 export async function changePlan(desk) {
   const made = await makeAnew(desk);
-  if (made === null) return;
+  if (typeof made === "string") return made;
   const { plan, words, kind } = made;
   await writeAll(desk, plan, words, { title: say("change.forms"), first: say("change.mark"), unfinished: "clear.changed", step: stepsOf(kind) - 3 });
   await drillAndEnd(desk, made);
+  return "end";
 }
 
 /**
@@ -45,10 +47,10 @@ function stepsOf({ extendable }) {
 }
 
 /**
- * Asks for the old papers and the plan until the new papers are made. Returns null if the owner ends the task, or goes back.
+ * Asks for the old papers and the plan until the new papers are made, or until the owner ends the task or goes back.
  *
  * @param {Desk} desk
- * @returns {Promise<Made | null>}
+ * @returns {Promise<Made | "end" | "back">}
  */
 async function makeAnew(desk) {
   /** @type {Chosen} */
@@ -56,13 +58,13 @@ async function makeAnew(desk) {
   for (;;) {
     setSteps(STEPS_MOST, true);
     const found = await collectPapers(desk, { title: say("change.title"), intro: say("change.intro") });
-    if (found === null) return null;
+    if (found === null) return "back";
     const { status, kinds } = found;
     if (status.enough) setSteps(stepsOf(kinds[0]));
     const tooFew = async () => askForMore(say("recover.few"), [paragraph(say("recover.too_few")), await saidLeftOut(desk)], status, kinds);
     const make = () => (kinds[0].extendable ? split(desk, chosen) : renew(desk, chosen, kinds[0]));
     const answer = status.enough ? await make() : await tooFew();
-    if (answer === "end") return null;
+    if (answer === "end") return answer;
     if (answer !== "papers") return { plan: chosen.planned.plan, kind: kinds[0], words: answer };
   }
 }

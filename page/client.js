@@ -42,6 +42,8 @@ export class Desk {
   #module = null;
   /** @type {Held | null} */
   #kept = null;
+  /** @type {Record<string, any> | null} what the last long call was given, until it ends */
+  #given = null;
   // Whether the owner stopped the last long call.
   #isStopped = false;
   /** @type {Error | null} why there is no worker any more */
@@ -139,6 +141,7 @@ export class Desk {
    */
   async askLong(call, given = {}, onPart = () => {}) {
     this.#isStopped = false;
+    this.#given = given;
     const kept = await this.ask("keep");
     this.#kept = kept;
     try {
@@ -150,9 +153,11 @@ export class Desk {
     }
   }
 
+  /** Overwrites what is kept, and what the call was given: if the task ends before the answer comes, whoever asked doesn't do that. */
   #forget() {
-    if (this.#kept) zero(...arraysOf(this.#kept));
+    zero(...arraysOf(this.#kept), ...arraysOf(this.#given));
     this.#kept = null;
+    this.#given = null;
   }
 
   /** Stops what `askLong` asked for: it throws `Stopped`, and a new worker holds what the old one held. */

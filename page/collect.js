@@ -4,7 +4,7 @@ import { leaveEntry, PaperEntry, USUAL_WORDS } from "./paper_entry.js";
 import { picture, saidWhole } from "./picture.js";
 import { saidForeign, saidRepaired, wordsToLookAt } from "./refusals.js";
 import { say } from "./say.js";
-import { ask, show } from "./screen.js";
+import { ask, dropQuestion, show } from "./screen.js";
 
 /** @typedef {import("./client.js").Desk} Desk */
 /** @typedef {import("./desk.js").Status} Status */
@@ -201,6 +201,8 @@ class Collection {
 
   #draw() {
     this.#say("");
+    // The answer to a question about words that were typed before would forget the papers, too.
+    dropQuestion();
     this.#undo.replaceChildren();
     this.#back.classList.toggle("hide", this.#backups.length > 0);
     for (const it of this.#ends.values()) it.button.remove();

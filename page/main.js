@@ -14,7 +14,7 @@ import { announce, ask, askAbove, conceal, isTouched, setSteps, setTouched, setU
 import { tellPaper } from "./tell_paper.js";
 import { forgetTyping } from "./word_field.js";
 
-/** @typedef {{key: "make" | "check" | "recover" | "replace" | "change" | "damaged" | "what" | "blank", run: (desk: Desk) => Promise<void>, isSecret: boolean}} Task */
+/** @typedef {{key: "make" | "check" | "recover" | "replace" | "change" | "damaged" | "what" | "blank", run: (desk: Desk) => Promise<unknown>, isSecret: boolean}} Task */
 
 /**
  * The tasks of the first screen.
@@ -125,8 +125,9 @@ async function begin(task, tried) {
   try {
     await task.run(own);
   } catch (error) {
-    // No error of the page holds a secret. Only that it failed is told.
-    if (desk === own) await ask(say("fault.title"), [paragraph(say("fault.other"), "bad")], [{ key: "end", label: say("end"), kind: "primary" }]);
+    // No error of the page holds a secret. Only that it failed is told, and what becomes of papers that are half written.
+    const half = unfinishedKey() === "" ? null : paragraph(say(unfinishedKey()), "bad");
+    if (desk === own) await ask(say("fault.title"), [paragraph(say("fault.other"), "bad"), half], [{ key: "end", label: say("end"), kind: "primary" }]);
   }
   if (desk === own) await clearAll(tried);
 }

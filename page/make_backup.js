@@ -22,7 +22,7 @@ import { askWallet } from "./wallet.js";
 /** @typedef {"new" | "own"} Source */
 /** @typedef {{bytes: number, digits: Uint8Array | null, noted: string}} Secret */
 /** @typedef {{secret: Secret, dice: Uint8Array, passphrase: Uint8Array}} Typed */
-/** @typedef {import("./wallet.js").Asked & {source: Source, noted: string | null, exponent: number}} Chosen what was chosen and isn't secret */
+/** @typedef {import("./wallet.js").Asked & {source: Source, noted: string | null, exponent: number, hasThrows: boolean}} Chosen what was chosen and isn't secret. `hasThrows` says whether throws of a die were typed */
 
 /**
  * How many bytes a new secret has, by the number of words on each paper.
@@ -35,7 +35,7 @@ const BYTES = { 20: 16, 33: 32 };
  *
  * @type {Chosen}
  */
-const USUAL = { source: "new", noted: null, exponent: 1, wallet: null, words: 20 };
+const USUAL = { source: "new", noted: null, exponent: 1, hasThrows: false, wallet: null, words: 20 };
 
 /**
  * Makes a backup.
@@ -149,12 +149,13 @@ class MoreFields {
    * @param {Chosen} first
    * @param {SecretFields} secret
    */
-  constructor(desk, { exponent }, secret) {
+  constructor(desk, { exponent, hasThrows }, secret) {
     this.#most = desk.begun.exponentMax;
     this.#secret = secret;
     const time = element("p", { class: "hint" });
     const tell = () => {
-      time.textContent = say("more.time", { time: saidTime(desk.secondsFor({ exponent: this.exponent, secretBytes: secret.secretBytes })) });
+      const seconds = desk.secondsFor({ exponent: this.exponent, secretBytes: secret.secretBytes });
+      time.textContent = this.#isExponent ? say("more.time", { time: saidTime(seconds) }) : "";
       this.#dice.box.hidden = secret.source === "own";
     };
     this.#exponent = labelled(say("more.exponent"), "number", {
@@ -163,11 +164,22 @@ class MoreFields {
     });
     tell();
     for (const change of ["input", "click"]) secret.element.addEventListener(change, tell);
-    this.element = element("details", { open: exponent !== USUAL.exponent }, element("summary", {}, say("more.title")), this.#exponent.box, time, this.#dice.box);
+    if (hasThrows) this.#dice.box.append(paragraph(say("more.dice.emptied"), "note"));
+    this.element = element("details", { open: hasThrows || exponent !== USUAL.exponent }, element("summary", {}, say("more.title")), this.#exponent.box, time, this.#dice.box);
   }
 
   get exponent() {
     return Number(this.#exponent.field.value);
+  }
+
+  get #isExponent() {
+    const { value } = this.#exponent.field;
+    return /^\d+$/.test(value) && Number(value) <= this.#most;
+  }
+
+  /** Whether throws were typed. */
+  get hasThrows() {
+    return typedDigits(this.#dice.field.value) !== "";
   }
 
   /** The throws that were typed for a new secret. */
@@ -176,8 +188,7 @@ class MoreFields {
   }
 
   missing() {
-    const { value } = this.#exponent.field;
-    if (!/^\d+$/.test(value) || Number(value) > this.#most) return say("more.exponent.wrong");
+    if (!this.#isExponent) return say("more.exponent.wrong");
     const [throws, least] = [this.#throws, THROWS_LEAST.get(this.#secret.secretBytes) ?? 0];
     if (/[^1-6]/.test(throws)) return say("more.dice.wrong");
     return throws === "" || throws.length >= least ? null : say("more.dice.few", { count: throws.length, least });
@@ -207,6 +218,7 @@ async function create(desk, plan, chosen) {
     let typed = null;
     const keep = async () => {
       chosen.source = secret.source;
+      chosen.hasThrows ||= more.hasThrows;
       if (secret.source === "own") chosen.noted = (await secret.noted()) ?? chosen.noted;
       if (more.missing() === null) chosen.exponent = more.exponent;
       return null;

@@ -114,6 +114,7 @@ class Damaged {
       const kinds = await this.#desk.ask("repair", { line }, [line.buffer]);
       if (changes !== this.#changes) return OUTDATED;
       await this.#tell(kinds, marks);
+      if (changes !== this.#changes) return OUTDATED;
       return { isTaken: false, ...answerOf(kinds) };
     } catch (error) {
       if (changes !== this.#changes) return OUTDATED;

@@ -28,17 +28,25 @@ export async function replacePaper(desk) {
     setSteps(8);
     const why = await askWhy();
     if (why === "back") return;
-    const answer = why === "other" ? await tellNew() : await replaceDestroyed(desk);
-    if (answer === "change") await changePlan(desk);
+    const answer = why === "other" ? await changeInstead(desk) : await replaceDestroyed(desk);
     if (answer !== "back") return;
   }
 }
 
 /**
- * Says that new papers are the right answer.
+ * Says that new papers are the right answer, and changes the plan if the owner wants that.
  *
- * @returns {Promise<"change" | "back">}
+ * @param {Desk} desk
+ * @returns {Promise<"end" | "back">}
  */
+async function changeInstead(desk) {
+  while ((await tellNew()) === "change") {
+    if ((await changePlan(desk)) === "end") return "end";
+  }
+  return "back";
+}
+
+/** @returns {Promise<"change" | "back">} */
 function tellNew() {
   setSteps(0);
   const told = [paragraph(say("replace.new.change"), "note"), paragraph(say("replace.new.move"))];

@@ -16,16 +16,19 @@ let unfinished = "";
 let step = { key: "step", at: 0, count: 0 };
 // What the next screen says first.
 let news = { text: "", kind: "note" };
+// The timer of what a screen reader is told next.
+let telling = 0;
 
 /**
- * Says something to a screen reader.
+ * Says something to a screen reader, unless the tab is hidden: words that are near a typed one may be in it.
  *
  * @param {string} text
  */
 export function announce(text) {
   live.textContent = "";
+  clearTimeout(telling);
   // A live region is read when its text changes, so the same text is set anew.
-  setTimeout(() => (live.textContent = text), 50);
+  telling = setTimeout(() => (live.textContent = document.hidden ? "" : text), 50);
 }
 
 /** Whether something was typed or shown that leaving the page would lose. */
@@ -77,9 +80,10 @@ export function tellNext(text, kind = "note") {
   news = { text, kind };
 }
 
-/** Empties all elements that show a secret. */
+/** Empties all elements that show a secret, and what a screen reader was told last. */
 export function conceal() {
   concealIn(main);
+  announce("");
 }
 
 /** Empties each field of the screen, and removes the screen. */
@@ -168,6 +172,11 @@ function goOnByEnter(next) {
   for (const field of fields) field.addEventListener("keydown", pressed);
 }
 
+/** Takes the question away that stands above the screen, if there is one. */
+export function dropQuestion() {
+  main.querySelector(":scope > .question")?.remove();
+}
+
 /**
  * Asks above the screen, which stays as it is.
  *
@@ -177,7 +186,7 @@ function goOnByEnter(next) {
  * @param {() => void} onGo
  */
 export function askAbove(text, stay, go, onGo) {
-  main.querySelector(":scope > .question")?.remove();
+  dropQuestion();
   const staying = button(stay, () => {
     asked.remove();
     main.querySelector("h1")?.focus();

@@ -213,15 +213,19 @@ export function distance(one, other) {
   return rows[one.length][other.length];
 }
 
+// No word of the list is nearly as long, and to compare hundreds of letters with each of them would take seconds.
+const COMPARED_MOST = 20;
+
 /**
  * Returns the words of the list that are nearest to a word that isn't in it, the nearest first. They are offered, and never
  * taken by themselves.
  *
  * @param {readonly string[]} list
- * @param {string} word
+ * @param {string} typed
  * @param {number} [count]
  */
-export function nearest(list, word, count = 5) {
+export function nearest(list, typed, count = 5) {
+  const word = typed.slice(0, COMPARED_MOST);
   const rows = list.map((it) => {
     // Four letters identify a word, so a word that was cut short is near to the words that begin like it.
     const beginsLike = distance(word, it.slice(0, word.length)) + 0.5;

@@ -176,7 +176,7 @@ export class WordField {
       this.field.value = letters;
       this.finish();
     } else {
-      this.#grown(letters, !event.inputType.startsWith("delete"));
+      this.#grown(letters, !event.inputType?.startsWith("delete"));
     }
   }
 

@@ -27,7 +27,6 @@ fn main() {
     }
     match named().or_else(asked).or_else(built).unwrap_or_else(|| compiled(&target)) {
         Ok(folder) => {
-            println!("cargo::rerun-if-changed={}", folder.join(ARCHIVE).display());
             println!("cargo::rustc-link-search=native={}", folder.display());
             println!("cargo::rustc-link-lib=static=shamir");
         }
@@ -48,9 +47,13 @@ fn here() -> PathBuf {
 /// Gives the place where one of these files is.
 fn carried(places: [&str; 2]) -> PathBuf {
     let found = places.map(|place| here().join(place)).into_iter().find(|place| place.is_file());
-    let place = found.unwrap_or_else(|| here().join(places[0]));
-    println!("cargo::rerun-if-changed={}", place.display());
-    place
+    found.inspect(|place| watch(place)).unwrap_or_else(|| here().join(places[0]))
+}
+
+/// Lets Cargo run this script again if a file changes. For one that isn't there, or that the script itself writes, it would do so in
+/// each build.
+fn watch(file: &Path) {
+    println!("cargo::rerun-if-changed={}", file.display());
 }
 
 /// Gives the folder that `SHAMIR_LIB_DIR` names, if it is set.
@@ -77,9 +80,13 @@ fn asked() -> Option<Result<PathBuf, String>> {
     Some(installed().and_then(|folder| with_archive(&folder)).ok_or_else(missing))
 }
 
-/// Gives the folder of the repository, if the native library is built there, and runs on the target.
+/// Gives the folder of the repository, if the crate is in it, and the native library is built there and runs on the target.
 fn built() -> Option<Result<PathBuf, String>> {
     if (variable("CARGO_CFG_TARGET_OS").as_str(), variable("CARGO_CFG_TARGET_ARCH").as_str()) != ("linux", "x86_64") {
+        return None;
+    }
+    // Another project can have an archive of this name there.
+    if !here().join(HEADER[1]).is_file() {
         return None;
     }
     with_archive(&here().join("../..")).map(Ok)
@@ -90,7 +97,9 @@ fn with_archive(folder: &Path) -> Option<PathBuf> {
     if !folder.join(ARCHIVE).is_file() {
         return None;
     }
-    folder.canonicalize().ok()
+    let folder = folder.canonicalize().ok()?;
+    watch(&folder.join(ARCHIVE));
+    Some(folder)
 }
 
 /// Gives the folder that `pkg-config` tells, if it knows the library in a version that fits.

@@ -830,7 +830,7 @@ void shamir_wipe(void *buffer, size_t buffer_bytes);
  * and gives the answer and the text of shamir_judge. It keeps a mnemonic that isn't there yet, in lower-case words with single
  * spaces. If the buffer has no room for it, the code is 1, and the field first is the number of bytes that it takes. The code is
  * 1, too, if text has fewer than SHAMIR_STATUS_BYTES_MAX bytes and the answer takes more. If a mnemonic is refused, no field of
- * the struct changes.
+ * the struct changes. If the code is 1 or 4, text may be changed.
  *
  * The field backup has the lines of the backup of the mnemonic that came last. Calls that take lines take them.
  * shamir_papers_recover calls shamir_recover with them. A NUL ends its passphrase and its fingerprint. If the fingerprint is NULL,
@@ -854,7 +854,8 @@ typedef struct shamir_papers {
     uint8_t enough;      /* 1 if the mnemonics of its backup are enough for a recovery, else 0 */
 } shamir_papers;
 
-/* For shamir_papers_add: finds the lines of a backup, and returns where they end. If there are none, their place is after all others. */
+/* For shamir_papers_add: finds the lines of a backup, and returns where they end. If there are none, their place is after all others.
+   If the library refuses to read one, because as plain C it has no memory, it returns (size_t)-1, and changes nothing. */
 SHAMIR_INLINE SHAMIR_STRUCT(1) size_t shamir_papers_find(shamir_papers *papers, uint16_t id)
 {
     shamir_share share;
@@ -866,8 +867,11 @@ SHAMIR_INLINE SHAMIR_STRUCT(1) size_t shamir_papers_find(shamir_papers *papers, 
         }
         /* The call has no room for the value, so it refuses with 1, and gives the fields. */
         answer = shamir_parse(papers->lines + at, end - at, &share, NULL, 0);
+        if (answer.code != SHAMIR_E_TOO_SHORT) {
+            return (size_t)-1;
+        }
         end++;
-        if (answer.code == SHAMIR_E_TOO_SHORT && share.id == id) {
+        if (share.id == id) {
             found_at = found_end == papers->used ? at : found_at;
             found_end = end;
         }
@@ -908,14 +912,20 @@ SHAMIR_INLINE SHAMIR_STRUCT(1) shamir_answer shamir_papers_add(
         return answer;
     }
     if (!found.again) {
-        /* A mnemonic without open places fits itself alone. */
-        kept = shamir_repair(line, line_bytes, papers->lines + papers->used, papers->lines_bytes - papers->used);
+        /* A mnemonic without open places fits itself alone. In C, not even 0 may be added to a pointer that is NULL. */
+        kept = shamir_repair(
+            line, line_bytes, papers->lines == NULL ? NULL : papers->lines + papers->used, papers->lines_bytes - papers->used);
         if (kept.code != SHAMIR_DONE) {
             return kept;
         }
         bytes = (size_t)kept.written;
     }
     place = shamir_papers_find(papers, found.share.id);
+    if (place == (size_t)-1) {
+        memset(&answer, 0, sizeof answer);
+        answer.code = SHAMIR_E_NO_MEMORY;
+        return answer;
+    }
     papers->used = shamir_papers_move(papers, place, bytes);
     papers->backup_bytes += bytes;
     papers->again = found.again;
@@ -1004,12 +1014,15 @@ SHAMIR_INLINE SHAMIR_STRUCT(1) int shamir_drill_list(shamir_drilling *drilling)
     if (drilling->quorums == 0) {
         drilling->answer = shamir_quorums(drilling->lines, drilling->lines_bytes);
         drilling->quorums = drilling->answer.first;
+        if (drilling->answer.code != SHAMIR_DONE) {
+            return 0;
+        }
     }
     drilling->at = 0;
     drilling->end = (size_t)listed.second;
     /* The last line is "end", or it begins with "more after". */
     drilling->is_last = drilling->text[drilling->end] == 'e';
-    return drilling->answer.code == SHAMIR_DONE && drilling->end > 0;
+    return drilling->end > 0;
 }
 
 /* Goes on to the next quorum of a drill. */

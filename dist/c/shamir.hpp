@@ -174,14 +174,15 @@ namespace detail {
 
 inline std::size_t size_of(std::uint64_t size) { return static_cast<std::size_t>(size); }
 
-/* Returns the parts of a text. Each ends with this sign, but the last part may lack it. */
+/* Returns the parts of a text. Each ends with this sign, but the last part may lack it. The header windows.h has a macro min, which
+   parentheses around the name keep away. */
 inline std::vector<Text> parts(Text text, char sign)
 {
     std::vector<Text> found;
     while (!text.empty()) {
-        const std::size_t end = std::min(text.find(sign), text.size());
+        const std::size_t end = (std::min)(text.find(sign), text.size());
         found.push_back(text.substr(0, end));
-        text.remove_prefix(std::min(end + 1, text.size()));
+        text.remove_prefix((std::min)(end + 1, text.size()));
     }
     return found;
 }
@@ -651,6 +652,13 @@ inline Answer<Mnemonics> repair(Text line)
 /* Mnemonics as they come, one after the other, of one backup or of several. The library decides about each. */
 class Papers {
 public:
+    Papers() = default;
+    Papers(const Papers &) = default;
+    /* The other one has no papers then. */
+    Papers(Papers &&other) noexcept { swap(other); }
+    /* If there is no memory for a copy, nothing changes. */
+    Papers &operator=(Papers other) noexcept { return swap(other), *this; }
+
     /* Judges a mnemonic beside all that are here, and keeps it unless it is here already, in lower-case words with single spaces. If it
        is refused, nothing is kept. */
     Answer<Judgement> add(Text mnemonic)
@@ -704,6 +712,14 @@ public:
     }
 
 private:
+    void swap(Papers &other) noexcept
+    {
+        std::swap(all_, other.all_);
+        std::swap(of_, other.of_);
+        std::swap(last_, other.last_);
+        std::swap(enough_, other.enough_);
+    }
+
     Mnemonics all_;
     /* The identifier of each line. */
     std::vector<std::uint16_t> of_;

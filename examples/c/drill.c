@@ -5,7 +5,7 @@
  *   cc -std=c89 -Iinclude examples/c/drill.c libshamir.a -o drill
  *   ./drill < FILE
  *
- * The exit status is 1 if the library refuses the mnemonics.
+ * The exit status is 1 if the library refuses the mnemonics. It is 2 if the input is too long or can't be read.
  */
 #include <stdio.h>
 #include <string.h>
@@ -19,6 +19,10 @@ int main(void)
     static const char more[] = "more after ";
     size_t lines_bytes = fread(lines, 1, sizeof lines, stdin), after_bytes = 0;
 
+    /* fread may have read only the beginning of a longer input, so getc looks for one more byte. */
+    if (ferror(stdin) || getc(stdin) != EOF || ferror(stdin)) {
+        return 2;
+    }
     for (;;) {
         shamir_answer answer = shamir_drill(
             lines, lines_bytes, "TREZOR", 6, SHAMIR_EXPONENT_MAX, after, after_bytes, 4, SHAMIR_FORM_DIGITS, NULL, 0, text,

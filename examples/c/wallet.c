@@ -30,6 +30,19 @@ static int tell(const char *before, shamir_answer answer, FILE *refusals) {
     return 1;
 }
 
+/* Reads a line, without its line feed, and keeps only the beginning of one that is too long. Some calls take a NUL as
+ * the end of a text, so it becomes a byte that every call refuses. Returns 0 at the end of the input. */
+static int read_line(char *line, size_t room) {
+    size_t bytes = 0;
+    int next;
+
+    while ((next = getchar()) != EOF && next != '\n')
+        if (bytes + 1 < room)
+            line[bytes++] = (char)(next ? next : 1);
+    line[bytes] = 0;
+    return bytes > 0 || next != EOF;
+}
+
 static int make(const char *plan) {
     const size_t bytes = strlen(plan), size = 16, needed = (size_t)shamir_random_needed(plan, bytes, size).first;
     const uint32_t exponent = 1, extendable = 1;
@@ -48,8 +61,8 @@ static int recover(const char *noted) {
     shamir_papers papers = {.lines = own.lines, .lines_bytes = sizeof own.lines};
     shamir_answer answer;
 
-    while (!papers.enough && fgets(own.paper, sizeof own.paper, stdin)) {
-        answer = shamir_papers_add(&papers, own.paper, strcspn(own.paper, "\n"), own.text, sizeof own.text);
+    while (!papers.enough && read_line(own.paper, sizeof own.paper)) {
+        answer = shamir_papers_add(&papers, own.paper, strlen(own.paper), own.text, sizeof own.text);
         tell(papers.again ? "again\n" : "", answer, stdout);
     }
     if (!papers.enough)
@@ -78,10 +91,9 @@ static int drill(const char *noted, const char *name) {
 
 int main(int count, char **words) {
     const char *task =
-        count > 1 && fgets(own.key, sizeof own.key, stdin) && strlen(own.key) + 1 < sizeof own.key ? words[1] : "";
+        count > 1 && read_line(own.key, sizeof own.key) && strlen(own.key) + 1 < sizeof own.key ? words[1] : "";
     int status;
 
-    own.key[strcspn(own.key, "\n")] = 0;
     status = strcmp(task, "make") == 0 && count == 3      ? make(words[2])
              : strcmp(task, "recover") == 0 && count == 3 ? recover(words[2])
              : strcmp(task, "drill") == 0 && count == 4   ? drill(words[2], words[3])

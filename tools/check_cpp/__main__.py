@@ -62,6 +62,13 @@ def check_misuse(compiler):
             sys.exit(f"{compiler} takes {what}: {call}" if what else f"{compiler} refuses {call}: {done.stderr}")
 
 
+def check_macros(compiler):
+    """Checks that the header compiles after one with the macros min and max, such as that of Windows."""
+    included = re.findall(r"^#include <.*>$", (HEADERS / "shamir.hpp").read_text(), re.MULTILINE)
+    source = "\n".join([*included, "#define min(a, b) a", "#define max(a, b) a", '#include "shamir.hpp"', ""])
+    ran([compiler, "-std=c++17", "-fsyntax-only", "-x", "c++", *STRICT, "-"], stdin=None, input=source)
+
+
 def check_compiler(compiler, folder):
     """Runs the tests over both libraries."""
     portable = f"{folder}/{compiler}.o"
@@ -71,6 +78,7 @@ def check_compiler(compiler, folder):
         ran([compiler, f"-std={standard}", *STRICT, *flags, HERE / "tests.cpp", library, "-o", program])
         ran([program])
     check_misuse(compiler)
+    check_macros(compiler)
 
 
 def can_be_said(case):

@@ -211,6 +211,54 @@ void check_papers()
     expect("a long line", spelled.add(spaced) && spelled.add(lines[4]) && shamir::Text(spelled.lines(1)) == shamir::Text(papers({3, 4})));
 }
 
+/* A copy for which there is no memory changes nothing, and what is moved from has no papers. */
+void check_copies()
+{
+    static_assert(std::is_nothrow_move_constructible_v<shamir::Papers>);
+    shamir::Papers both, held;
+    expect("papers to copy", both.add(lines[3]) && both.add(lines[4]) && held.add(alone));
+    for (int enough = 0; held.ids() != both.ids(); enough++) {
+        blocks = enough;
+        try {
+            held = both;
+        } catch (const std::bad_alloc &) {
+        }
+        blocks = INT_MAX;
+        expect("papers that are copied without memory", held.ids() == both.ids() || shamir::Text(held.lines(7945)) == std::string(alone) + "\n");
+    }
+    expect("papers that are copied", held.enough() && shamir::Text(held.lines(1)) == shamir::Text(papers({3, 4})));
+    const shamir::Papers moved = std::move(held);
+    expect("papers that are moved", moved.enough() && moved.ids() == both.ids() && !held.enough() && held.ids().empty());
+}
+
+/* What stands in shamir.h alone makes several calls. If there is no memory for one of them, it says so, and changes nothing. */
+void check_no_memory_in_c()
+{
+    const int before = given;
+    char room[4096], text[SHAMIR_STATUS_BYTES_MAX];
+    shamir_papers held = {};
+    held.lines = room;
+    held.lines_bytes = sizeof room;
+    const auto add = [&](shamir::Text line) { return shamir_papers_add(&held, line.data(), line.size(), text, sizeof text); };
+    expect("papers in C", add(lines[3]).code == SHAMIR_DONE && add(alone).code == SHAMIR_DONE && held.enough);
+    const shamir_papers earlier = held;
+    /* There is memory to judge the paper and to write it anew, but none, or not enough, to read those that are there. */
+    for (const int enough : {2, 3}) {
+        given = enough;
+        const shamir_answer answer = add(lines[4]);
+        expect("papers in C without memory", answer.code == SHAMIR_E_NO_MEMORY && !answer.first && !answer.second && !answer.written
+            && held.used == earlier.used && held.backup == earlier.backup && held.backup_bytes == earlier.backup_bytes && held.enough);
+    }
+    given = before;
+    expect("papers in C with memory again", add(lines[4]).code == SHAMIR_DONE
+        && shamir::Text(held.backup, held.backup_bytes) == shamir::Text(papers({3, 4})));
+    shamir_drilling drilling = shamir_drill_start(held.backup, held.backup_bytes, "TREZOR", "df41d8fe", text, sizeof text);
+    given = 1;
+    const bool goes_on = shamir_drill_next(&drilling);
+    given = before;
+    expect("a drill in C without memory", !goes_on && drilling.answer.code == SHAMIR_E_NO_MEMORY && !shamir_drill_next(&drilling));
+}
+
 /* If there is no memory for a call, its answer says so. Only the library as plain C takes any. */
 void check_no_memory()
 {
@@ -225,6 +273,7 @@ void check_no_memory()
     given = 1;
     expect("a count of quorums without memory", is_refused(shamir::drill(papers({3, 4}), {}, [](const auto &, const auto &) { return true; })));
     given = before;
+    check_no_memory_in_c();
 }
 
 /* Refusals say what the command shamir says, and the value of one can't be taken. */
@@ -345,6 +394,7 @@ int main()
     check_recovery();
     check_reading();
     check_papers();
+    check_copies();
     check_no_memory();
     check_refusals();
     check_drill();

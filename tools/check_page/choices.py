@@ -80,7 +80,7 @@ THROWS = "31415 26535 24426 43331 52364 26463 52313 25114 16155 31122 31415 2653
 
 
 def check_dice(page, see):
-    """Throws of a die are mixed into the random bytes of a new secret, if they are enough."""
+    """Throws of a die are mixed into the random bytes of a new secret, if they are enough. On the way back, the page says that it emptied them."""
     page.evaluate(FOREKNOWN % "")
     for count, words in [(50, 20), (101, 33)]:
         throws = THROWS.replace(" ", "")[:count]
@@ -101,6 +101,11 @@ def check_dice(page, see):
             if text:
                 page.push(say("make.create"))
                 page.wait_text(text)
+        page.push(say("back"), to=say("make.wallet"))
+        page.push(say("continue"), to=say("make.secret"))
+        page.wait_text(say("more.dice.emptied"))
+        page.tick(say("passphrase.none"))
+        page.fill(say("more.dice"), throws)
         see("throws of a die")
         page.push(say("make.create"), to=say("make.forms"))
         page.wait_text(say("more.dice.mixed"))

@@ -214,6 +214,16 @@ FAULTS = [
     ("a paper of an old backup is told as one of the new", "page/desk.js", 'isForeign: found === "conflict" || found === "apart"', "isForeign: false", of_page(lambda page: change.check_extendable(page, unseen))),
     ("a plan survives one loss more", "page/plan_picture.js", "group.members - group.needed + 1", "group.members - group.needed + 2", lambda folder, url: decisions.check(folder)),
     ("papers of right quorums are suspected", "page/quorums.js", "!inRight.has(name) && ", "", lambda folder, url: decisions.check(folder)),
+    ("digits stay after a task that was cleared", "page/client.js", ", ...arraysOf(this.#given)", "", of_page(lambda page: hasty.check_given(page, unseen))),
+    ("a task that fails doesn't say what becomes of papers", "page/main.js", '"bad"), half]', '"bad")]', of_page(lambda page: hasty.check_fault(page, unseen))),
+    ("found words are told beside others", "page/read_damaged.js", "marks);\n      if (changes !== this.#changes) return OUTDATED;\n", "marks);\n", of_page(lambda page: hasty.check_late_answer(page, unseen))),
+    ("throws of a die are lost on the way back", "page/make_backup.js", "      chosen.hasThrows ||= more.hasThrows;\n", "", of_page(lambda page: choices.check_dice(page, unseen))),
+    ("a time is told for an exponent that there isn't", "page/make_backup.js", "this.#isExponent ? say(", "true ? say(", of_page(lambda page: steps.check_chosen(page, unseen))),
+    ("an old question forgets a paper", "page/collect.js", "    dropQuestion();\n", "", of_page(lambda page: second_thoughts.check_question(page, unseen))),
+    ("a long paste is compared as a whole", "page/spelling.js", "typed.slice(0, COMPARED_MOST)", "typed", of_page(lambda page: second_thoughts.check_long_paste(page, unseen))),
+    ("a hidden tab keeps what a screen reader was told", "page/screen.js", '  announce("");\n', "", of_page(lambda page: second_thoughts.check_offered(page, unseen))),
+    ("an input that doesn't say its kind is left unread", "page/word_field.js", "event.inputType?.", "event.inputType.", of_page(lambda page: second_thoughts.check_offered(page, unseen))),
+    ("the way back from the other task ends this one", "page/change_plan.js", 'return "back";', 'return "end";', of_page(lambda page: tasks.check_replace(page, unseen))),
     ("halves of seconds are left out", "page/say.js", "Math.round(seconds), ", "Math.floor(seconds), ", lambda folder, url: decisions.check(folder)),
 ]
 

@@ -4,8 +4,8 @@ import time
 from browsers import Failed
 from long_drill import begin_long
 from looks import words_shown
-from samples import SOUND_PAPER, changed
-from tasks import begin, choose_wallet, clear, create, end, take_all
+from samples import SOUND_PAPER, changed, with_words
+from tasks import begin, choose_wallet, clear, create, end, paste, take_all
 from texts import say
 
 # Lets what the page starts, or what it asks the worker for, come not at all, or only at `UNDO`, which ends this.
@@ -29,7 +29,23 @@ ASK = """
 }
 null
 """
+FAIL = ASK.replace("await late;", "throw new Error('none');")
 UNDO = "window.undo(); null"
+# Returns how many bytes are left of the digits that a long call was given, if the worker is ended at once, and while it is at work.
+GIVEN = """
+(async () => {
+  const left = [];
+  for (const wait of [0, 1000]) {
+    const desk = await in_client.Desk.launch();
+    const digits = new TextEncoder().encode("00112233445566778899aabbccddeeff");
+    desk.askLong("make", { plan: "2of3", bytes: 16, digits, exponent: 15, extendable: true });
+    if (wait) await new Promise((resolve) => setTimeout(resolve, wait));
+    await desk.end();
+    left.push(digits.filter((it) => it !== 0).length);
+  }
+  return left.join(" ");
+})()
+"""
 
 
 def check_launch(page, see):
@@ -109,4 +125,39 @@ def check_stop(page, see):
     end(page)
 
 
-CHECKS = [check_launch, check_double_click, check_stop]
+def check_given(page, _):
+    """If a task ends while the worker makes papers of the owner's digits, the page overwrites these."""
+    left = page.evaluate(GIVEN)
+    if left != "0 0":
+        raise Failed(f"so many bytes are left of the digits after a task that was cleared: {left}")
+
+
+def check_fault(page, see):
+    """A task that fails while papers are half written says what becomes of them."""
+    begin(page, "make")
+    choose_wallet(page)
+    page.tick(say("passphrase.none"))
+    create(page)
+    page.wait_title(say("paper.title", name="0.0"))
+    page.evaluate(FAIL % "paper")
+    page.push(say("paper.written"), to=say("fault.title"))
+    page.evaluate(UNDO)
+    page.wait_text(say("fault.other"), say("clear.unfinished"))
+    see("a task that fails")
+    end(page)
+
+
+def check_late_answer(page, _):
+    """What was found of a damaged paper isn't told beside words that were changed before it was shown."""
+    begin(page, "damaged")
+    page.evaluate(ASK % "paper")
+    paste(page, with_words(SOUND_PAPER, {6: "?"}))
+    page.wait_text(say("damaged.found"))
+    page.fill(say("entry.word", number=5), "x")
+    page.evaluate(UNDO)
+    time.sleep(1)
+    page.lacks(say("damaged.one", name="0.0"), "an answer to other words is told")
+    clear(page)
+
+
+CHECKS = [check_launch, check_double_click, check_stop, check_given, check_fault, check_late_answer]

@@ -1,10 +1,13 @@
-"""What an owner takes back: a paper that was taken out, and fields that were emptied. Words that are offered, and how numbers are written."""
+"""What an owner takes back: a paper that was taken out, and fields that were emptied. Words that are offered, and a long paste."""
 from browsers import Failed
+from looks import HIDE
 from samples import SOUND_PAPER, THREE_GROUPS
 from tasks import begin, clear, paste, take
 from texts import counted, say
 
 WORDS = "[...document.querySelectorAll('.word:not([hidden]) input')].map((it) => it.value).join(' ')"
+# Some programs that fill fields tell only that a field has changed.
+BARE_INPUT = "{ const it = document.querySelectorAll('.word input')[2]; it.value = 'sub'; it.dispatchEvent(new Event('input', { bubbles: true })); } null"
 SHOWN = "[...document.querySelectorAll('.ahead button')].map((it) => it.textContent).join(' ')"
 
 
@@ -52,6 +55,43 @@ def check_emptied(page, see):
         clear(page)
 
 
+def check_question(page, _):
+    """A question about words that are typed goes when they are taken as a paper, since its answer would forget the paper too."""
+    begin(page, "recover")
+    first, *others = SOUND_PAPER.split()
+    page.type(first + " ")
+    page.push(say("back"))
+    page.wait_text(say("entry.lost"))
+    page.fill(say("entry.word", number=2), " ".join(others) + " ")
+    page.wait_text(say("collect.taken", name="0.0"))
+    page.lacks(say("entry.lost"), "a question about words stays beside the paper that they became")
+    clear(page)
+
+
+# Pastes a text with no separator, and returns how many milliseconds the page takes: at most `PASTING_MOST`. It takes a multiple of that if it
+# compares all letters with the list.
+PASTE_LONG = """
+(() => {
+  const event = new Event('paste', { bubbles: true, cancelable: true });
+  event.clipboardData = { getData: () => 'acid'.repeat(4000) };
+  const begun = performance.now();
+  document.querySelector('.word input').dispatchEvent(event);
+  return performance.now() - begun;
+})()
+"""
+PASTING_MOST = 3000
+
+
+def check_long_paste(page, _):
+    """A long text without separators is told as no word, and the page doesn't stand still meanwhile."""
+    begin(page, "check")
+    taken = page.evaluate(PASTE_LONG)
+    page.wait_text(say("entry.unknown", number=1))
+    if taken > PASTING_MOST:
+        raise Failed(f"a paste of many letters takes {taken:.0f} ms")
+    clear(page)
+
+
 def check_offered(page, see):
     """While a word is typed, the words that begin so are offered, if they are few. A word that is none is told with those that are near."""
     begin(page, "check")
@@ -69,7 +109,13 @@ def check_offered(page, see):
     page.wait_text(say("entry.unknown", number=2))
     told = "document.getElementById('live').textContent"
     page.wait(lambda: page.evaluate(told).startswith(say("entry.unknown", number=2)) and "academic" in page.evaluate(told), "the words that are near, in what a screen reader says")
+    for is_hidden in ("true", "false"):
+        page.evaluate(HIDE % is_hidden)
+        if page.evaluate(told):
+            raise Failed("a hidden tab keeps the words that a screen reader was told")
+    page.evaluate(BARE_INPUT)
+    page.wait(lambda: page.evaluate(SHOWN) == "subject submit", "the words that begin so, after an input that doesn't say of which kind it is")
     clear(page)
 
 
-CHECKS = [check_put_back, check_emptied, check_offered]
+CHECKS = [check_put_back, check_emptied, check_question, check_long_paste, check_offered]

@@ -161,6 +161,8 @@ def check_chosen(page, see):
         page.push(say("back" if wallet == "flag" else "continue"))
     page.wait_title(say("make.secret"))
     page.evaluate("document.querySelector('details').open = true; null")
+    page.retype(say("more.exponent"), "40", "spinbutton")
+    page.lacks(say("more.time", time="|").split("|")[0], "a time is told for an iteration exponent that there isn't")
     page.retype(say("more.exponent"), "3", "spinbutton")
     page.choose(say("secret.own"))
     go_back(page, say("make.wallet"))

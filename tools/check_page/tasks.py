@@ -311,7 +311,8 @@ def check_replace(page, see):
     page.wait_text(say("replace.new.change"))
     see("a new backup instead")
     page.push(say("replace.new.change.go"), to=say("change.title"))
-    page.push(say("back"), to=say("home.title"))
+    for title in ("replace.new.title", "replace.title", "home.title"):
+        page.push(say("back"), to=say(title))
 
 
 def type_damaged(page, line):

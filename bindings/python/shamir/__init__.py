@@ -602,6 +602,8 @@ class _Copies:
 
 def _whole_line(number: int, line: memoryview) -> memoryview:
     """Return a line as `_line` does, without a copy."""
+    # A view without bytes can't be cast.
+    line = line.cast("B") if line.nbytes else memoryview(b"")
     line = line[:-1] if line.nbytes and line[-1] == ord("\n") else line
     if ord("\n") in line:
         raise ValueError(f"line {number} of the list holds a line feed, so it is several lines")
@@ -610,7 +612,8 @@ def _whole_line(number: int, line: memoryview) -> memoryview:
 
 def _room(room: bytearray) -> Tuple[Any, int]:
     """Return a bytearray as the output of a call, which gets its address."""
-    return (ctypes.c_char * len(room)).from_buffer(room), len(room)
+    length = memoryview(room).nbytes
+    return (ctypes.c_char * length).from_buffer(room), length
 
 
 def library_version() -> str:

@@ -193,6 +193,10 @@ def fail(status: int, why: str) -> NoReturn:
 class Parser(argparse.ArgumentParser):
     """A parser of the command's words. Its status is right even if the help or a message can't be written."""
 
+    def __init__(self, prog: str, description: str):
+        # With abbreviations, a passphrase after --passphrase would be taken for the name of a file.
+        super().__init__(prog=prog, description=description, allow_abbrev=False)
+
     def print_help(self, file: Any = None) -> None:
         print_lines(iter(self.format_help().splitlines()))
 

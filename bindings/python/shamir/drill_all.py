@@ -8,7 +8,7 @@ If a person watches standard error, it says how many quorums were tried, and est
 thread, so the mnemonics and the passphrase are in this process alone.
 
 The exit status is 0 if all is as expected. It is 1 if a quorum has a digest mismatch or another secret, or if something is
-refused, 2 if the words of the command are wrong or FILE isn't the begin of this drill, 3 if the input, a value or FILE can't be
+refused, 2 if the words of the command are wrong or FILE isn't the beginning of this drill, 3 if the input, a value or FILE can't be
 read or written, and 130 after Ctrl-C. Standard error says why.
 """
 import concurrent.futures
@@ -22,7 +22,7 @@ from typing import BinaryIO, Callable, Deque, Iterator, List, Optional, Tuple
 
 import shamir
 from shamir.command import devices
-from shamir.cuts import Parser, Quorums, opened, quorums, tell
+from shamir.cuts import Parser, Quorums, quorums, tell
 
 # A thread gets twice the stack that the library needs at most.
 STACK_BYTES = 1 << 20
@@ -30,7 +30,7 @@ STACK_BYTES = 1 << 20
 PART_SECONDS = 1.0
 PART_MAX = 4096
 END = b"end\n"
-OTHER = "the file isn't the begin of this drill"
+OTHER = "the file isn't the beginning of this drill"
 
 
 class Failed(Exception):
@@ -97,19 +97,28 @@ def earlier(path: str, drill: Drill, whole: Quorums) -> Tuple[int, bool, bool]:
     was cut is taken off the file."""
     if not os.path.exists(path):
         return 0, True, False
-    with open(path, "r+b") as file:
+    with open(path, "rb") as file:
         data = file.read()
-        data = data[: data.rfind(b"\n") + 1]
-        file.truncate(len(data))
+    end = data.rfind(b"\n") + 1
+    data, cut = data[:end], data[end:]
     is_ended = data.endswith(END)
     lines = data[: -len(END) if is_ended else None].splitlines()
     try:
         wells = [drill.is_well(line) for line in lines]
     except (ValueError, IndexError):
         raise Failed(2, OTHER) from None
-    # The first quorum is tried again, since with another passphrase or fingerprint the file is of another drill.
-    if lines and (place_of(whole, lines[-1]) != len(lines) - 1 or drill.listed(None, 1)[0].splitlines() != lines[:1]):
+    if (is_ended and len(lines) != whole.count()) or (lines and place_of(whole, lines[-1]) != len(lines) - 1):
         raise Failed(2, OTHER)
+    # The first quorum that gives a secret is tried again, since with another passphrase or fingerprint the file is of another drill.
+    first = next((at for at, line in enumerate(lines) if b" digest mismatch " not in line), 0)
+    if lines and drill.listed(whole.names(first - 1) if first else None, 1)[0].splitlines() != lines[first : first + 1]:
+        raise Failed(2, OTHER)
+    if cut:
+        # Before anything is taken off the file, it has to be of this drill.
+        following, _ = drill.listed(whole.names(len(lines) - 1) if lines else None, 1)
+        if is_ended or not (following or END).startswith(cut):
+            raise Failed(2, OTHER)
+        os.truncate(path, end)
     return len(lines), all(wells), is_ended
 
 
@@ -160,7 +169,7 @@ def run(drill: Drill, whole: Quorums, begin: int, jobs: int, write: Callable[[by
     def part(at: int, count: int) -> Tuple[bytes, int]:
         started = time.monotonic()
         found = drill.listed(whole.names(at - 1) if at else None, count)
-        sizes[0] = max(1, min(PART_MAX, int(PART_SECONDS * count / (time.monotonic() - started))))
+        sizes[0] = max(1, min(PART_MAX, int(PART_SECONDS * count / max(time.monotonic() - started, 0.001))))
         return found
 
     threading.stack_size(STACK_BYTES)
@@ -208,18 +217,29 @@ def write_to(file: BinaryIO, data: bytes) -> None:
         raise Failed(3, "the file can't be written")
 
 
+def cores() -> int:
+    """Return how many cores this process may use. Not every system says that, so otherwise how many there are."""
+    return len(os.sched_getaffinity(0)) if hasattr(os, "sched_getaffinity") else os.cpu_count() or 1
+
+
+def readable(word: str) -> str:
+    """Return a word of the command as a text. Bytes that aren't UTF-8 become a sign that no fingerprint has."""
+    return os.fsencode(word).decode("utf-8", "replace")
+
+
 def main() -> None:
     parser = Parser(prog="python3 -m shamir.drill_all", description="Drills on all cores: tries each quorum of the mnemonics on standard input.")
-    parser.add_argument("--expect", metavar="FINGERPRINT", help="list whether each secret has this fingerprint; without it, list each fingerprint")
+    parser.add_argument("--expect", metavar="FINGERPRINT", type=readable, help="list whether each secret has this fingerprint; without it, list each fingerprint")
     parser.add_argument("--passphrase-file", metavar="FILE", help="read the passphrase from FILE")
     parser.add_argument("--into", metavar="FILE", help="write the list to FILE, and go on where it ends")
-    parser.add_argument("--jobs", metavar="N", type=int, default=len(os.sched_getaffinity(0)), help="how many cores (all)")
+    parser.add_argument("--jobs", metavar="N", type=int, default=cores(), help="how many cores (all)")
     args = parser.parse_args()
     if args.jobs < 1:
         parser.error("N is 1 or more")
     try:
-        passphrase = devices.in_file(args.passphrase_file) or b""
-        drill = Drill(opened(sys.stdin).buffer.read(), passphrase, args.expect)
+        data = devices.Input()
+        passphrase = devices.read_values(None, args.passphrase_file, data).passphrase or b""
+        drill = Drill(data.rest(), passphrase, args.expect)
         status, why = (0 if drilled(drill, args.jobs, args.into) else 1), ""
     except shamir.Refusal as refused:
         status, why = 1, str(refused)
@@ -228,7 +248,7 @@ def main() -> None:
     except devices.ValueFailed as value:
         status, why = value.status, f"{value.name}: {value.reason}"
     except (OSError, devices.DeviceFailed) as error:
-        status, why = 3, f"a file can't be read or written: {getattr(error, 'strerror', None) or error}"
+        status, why = 3, f"a file can't be read or written: {getattr(error, 'strerror', None) or getattr(error, 'reason', error)}"
     except KeyboardInterrupt:
         if is_watched():
             # What was said stands alone in its row, and not behind the progress.

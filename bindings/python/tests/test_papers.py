@@ -418,6 +418,8 @@ class SpellingTests(unittest.TestCase):
         self.assertEqual(parts_of("7 shadow, 9. acid"), [(7, "shadow"), (9, "acid")])
         self.assertEqual(parts_of("7 shadow acid 12"), [(7, "shadow"), (None, "acid")])
         self.assertEqual(parts_of("SLIP-0039, Paper 0.1: 1. shadow"), [(1, "shadow")])
+        # A longer number or word is read as far as it can matter, since neither may take long.
+        self.assertEqual(parts_of("7" * 5000 + "a" * 60000), [(int("7" * 20), "a" * 20)])
         self.assertEqual(parts_of(""), [])
 
     def test_numbers(self):

@@ -19,8 +19,9 @@ macro_rules! refusals {
         /// Why the library refuses a call: the first cause that applies.
         ///
         /// `Display` writes the refused line, if there is one, the code, and the library's own text: `line 2: 13 bad checksum`.
-        /// The command `shamir` prints the same, and uses the same codes, except 1 to 4. No error holds a secret, a passphrase
-        /// or a word of a mnemonic.
+        /// The command `shamir` prints the same, and uses the same codes, except 1 to 4. If the library as plain C has no memory
+        /// for its text, `Display` writes `no memory for the text` in its place. No error holds a secret, a passphrase or a word of
+        /// a mnemonic.
         ///
         /// A later version may have more variants.
         ///
@@ -277,9 +278,9 @@ impl Error {
         Option::read(self.answer().line).flatten()
     }
 
-    /// Gives the library's text, without the code and the line.
+    /// Gives the library's text, without the code and the line. As plain C, the library may have no memory for it.
     pub(crate) fn text(&self) -> Text<TEXT_BYTES_MAX> {
-        Text::written_by(|room| ffi::text(&self.answer(), room)).expect("the room is enough for a text")
+        Text::written_by(|room| ffi::text(&self.answer(), room)).unwrap_or_else(|_| Text::of(b"no memory for the text"))
     }
 }
 

@@ -255,6 +255,10 @@ impl fmt::Debug for Fingerprint {
 /// # Ok(())
 /// # }
 /// ```
+///
+/// # Panics
+///
+/// It panics if the library is linked as plain C, and `malloc` gives no memory.
 #[must_use]
 pub fn fingerprint(secret: &Secret) -> Fingerprint {
     let text = Text::written_by(|room| ffi::fingerprint(secret.as_bytes(), room));

@@ -41,6 +41,10 @@ impl fmt::Debug for Version {
 /// ```
 /// println!("libshamir {}", shamir::version());
 /// ```
+///
+/// # Panics
+///
+/// It panics if the library is linked as plain C, and `malloc` gives no memory.
 #[must_use]
 pub fn version() -> Version {
     Version(Text::written_by(ffi::version).expect("the room is enough for a version"))

@@ -40,6 +40,10 @@ pub fn words_into(letters: impl AsRef<[u8]>, room: &mut [u8]) -> Result<&str, Er
 /// assert_eq!(words("aca"), ["academic"]);
 /// assert_eq!(words("").len(), 1024);
 /// ```
+///
+/// # Panics
+///
+/// It panics if the library is linked as plain C, and `malloc` gives no memory.
 #[cfg(feature = "alloc")]
 #[must_use]
 pub fn words(letters: impl AsRef<[u8]>) -> alloc::vec::Vec<alloc::string::String> {

@@ -135,7 +135,7 @@ def in_file(name: Optional[str]) -> Optional[bytes]:
 def first_bytes(name: str, most: int) -> bytes:
     """Return the bytes of the file of this name, at most so many."""
     try:
-        with open(os.fsencode(name), "rb", buffering=0) as file:
+        with open(bytes_of(name), "rb", buffering=0) as file:
             return whole(file.fileno(), most)
     except OSError as error:
         raise ValueFailed(name, reason_of(error), 3) from None
@@ -168,9 +168,14 @@ def value_of(name: str, data: bytes) -> bytes:
     return data
 
 
+def bytes_of(name: str) -> bytes:
+    """Return the bytes of a word of the command, which are UTF-8, whatever the locale is."""
+    return name.encode("utf-8", "surrogateescape")
+
+
 def shortened(name: str) -> str:
     """Return the name of a file as a message has it: one that is longer than a path can be is cut, and ends in dots."""
-    data = os.fsencode(name)
+    data = bytes_of(name)
     return name if len(data) <= NAME_BYTES_MAX else data[: NAME_BYTES_MAX - 3].decode("utf-8", "ignore") + "..."
 
 

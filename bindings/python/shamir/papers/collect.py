@@ -23,6 +23,8 @@ def collect(screen: Screen, desk: Desk, title: str, intro: str, task: str = "", 
     screen.tell(intro)
     entry = Entry(screen, desk.word_count, leave=desk.leave_out, takes_several=True)
     if desk.papers:
+        if not screen.is_held:
+            screen.hold(say("end.typed"))
         screen.tell(f"{say('collect.found')}:")
         for here in desk.typed:
             screen.item(said_row(desk, here))

@@ -38,7 +38,8 @@ def wrapped(text: str, width: int) -> List[str]:
 
 def _printable(read: bytes) -> str:
     """Returns what was pasted, without keys that move or erase."""
-    return "".join(it for it in read.decode("utf-8", "replace") if it in "\n\t" or it.isprintable())
+    text = read.decode("utf-8", "replace")
+    return "".join(it if it == "\n" else " " if it.isspace() else it for it in text if it.isspace() or it.isprintable())
 
 
 class Stopped(Exception):
@@ -325,7 +326,7 @@ class Screen:
     def _heed_key(self, work: Work[T]) -> None:
         """Raises Stopped if the key is the one for it, and the owner means it. The work goes on meanwhile. Enter stops nothing, as it goes
         on elsewhere."""
-        is_stop = chr(self._terminal.key()).lower() == STOP
+        is_stop = chr(self._terminal.key(False)).lower() == STOP
         self._row("")
         self.drop_typed()
         if not is_stop:

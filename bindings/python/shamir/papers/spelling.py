@@ -21,6 +21,9 @@ HEADING = re.compile(r"slip-?0*39|paper\s+\d+\.\d+")
 # No paper has more words, and none has fewer.
 MOST, LEAST = 110, 20
 
+# A longer text is no word, and a longer number no place.
+PIECE_MAX = 20
+
 # The number that stands before a word, or None, and the word, or a mark with a question mark.
 Part = Tuple[Optional[int], str]
 
@@ -48,9 +51,9 @@ def _parts(pieces: Sequence[str]) -> Iterator[Part]:
     for piece in pieces:
         word = piece.lstrip("0123456789")
         digits = piece[: len(piece) - len(word)]
-        number = int(digits) if digits else number
+        number = int(digits.lstrip("0")[:PIECE_MAX] or "0") if digits else number
         if word:
-            yield number, re.sub(r"[?_]+$", "?", word)
+            yield number, re.sub(r"[?_]+$", "?", word[:PIECE_MAX])
             number = None
 
 

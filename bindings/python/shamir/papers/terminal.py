@@ -15,7 +15,9 @@ import termios
 from types import FrameType
 from typing import Any, Iterator, List, Optional
 
-ENDING = (signal.SIGINT, signal.SIGTERM, signal.SIGHUP, signal.SIGQUIT)
+ENDING = (
+    signal.SIGINT, signal.SIGTERM, signal.SIGHUP, signal.SIGQUIT, signal.SIGUSR1, signal.SIGUSR2, signal.SIGALRM, signal.SIGXCPU
+)
 SIZE_UNKNOWN = os.terminal_size((80, 24))
 
 # This stands for a character that isn't shown as it is.
@@ -114,7 +116,8 @@ class Terminal:
         modes[3] &= ~(termios.ECHO | termios.ECHONL | termios.ICANON | termios.IEXTEN)
         modes[3] |= termios.ISIG
         modes[6] = [*modes[6]]
-        modes[6][termios.VMIN], modes[6][termios.VTIME] = 1, 0
+        # A read doesn't wait: Ctrl-C drops what was typed, also between the wait for a key and the read.
+        modes[6][termios.VMIN], modes[6][termios.VTIME] = 0, 0
         self._set(termios.TCSADRAIN, modes)
 
     def _set(self, when: int, modes: List[Any]) -> None:
@@ -235,35 +238,45 @@ class Terminal:
             return SIZE_UNKNOWN
         return size if size.columns and size.lines else SIZE_UNKNOWN
 
-    def key(self) -> int:
-        """Returns the next byte that is typed. What a paste has from another system ends each line with a return and a line feed: then
-        the line feed is no key."""
-        typed = self._byte()
+    def key(self, waits: bool = True) -> int:
+        """Returns the next byte that is typed, or NO_KEY if there is none and it isn't to wait. What a paste has from another system ends
+        each line with a return and a line feed: then the line feed is no key."""
+        typed = self._byte(waits)
         is_end = self._was_return and typed == LINE_FEED
         self._was_return = typed == RETURN
         return NO_KEY if is_end else typed
 
-    def _byte(self) -> int:
+    def _byte(self, waits: bool = False) -> int:
         if self._ahead:
             return self._ahead.pop(0)
-        while self._source not in select.select([self._source, self._woken], [], [])[0]:
-            os.read(self._woken, 64)
-            self.heed_interrupt()
-            self._heed_size()
-        try:
-            typed = os.read(self._source, 1)
-        except OSError:
-            typed = b""
-        if not typed:
-            raise Ended(signal.SIGHUP)
-        return typed[0]
+        while True:
+            while waits and self._source not in select.select([self._source, self._woken], [], [])[0]:
+                os.read(self._woken, 64)
+                self.heed_interrupt()
+                self._heed_size()
+            try:
+                typed = os.read(self._source, 1)
+            except OSError:
+                raise Ended(signal.SIGHUP) from None
+            if typed:
+                return typed[0]
+            if self._is_gone():
+                raise Ended(signal.SIGHUP)
+            if not waits:
+                return NO_KEY
+
+    def _is_gone(self) -> bool:
+        """Whether the terminal is no longer there."""
+        waiting = select.poll()
+        waiting.register(self._source, 0)
+        return bool(waiting.poll(0))
 
     def is_typed(self, seconds: float) -> bool:
         """Whether something is typed within this time, apart from the rest of a line's end."""
         if not self._ahead and self._was_return and select.select([self._source], [], [], seconds)[0]:
             self._was_return = False
             typed = self._byte()
-            self._ahead += b"" if typed == LINE_FEED else bytes([typed])
+            self._ahead += b"" if typed in (LINE_FEED, NO_KEY) else bytes([typed])
         return bool(self._ahead) or bool(select.select([self._source], [], [], seconds)[0])
 
     def put_back(self, typed: bytes) -> None:
@@ -286,7 +299,7 @@ class Terminal:
         there was more. The end of a line is a line feed."""
         is_more = False
         while self.is_typed(PASTE_SECONDS):
-            key = self.key()
+            key = self.key(False)
             if key != NO_KEY and (most is None or len(into) < most):
                 into.append(LINE_FEED if key == RETURN else key)
             elif key != NO_KEY:
