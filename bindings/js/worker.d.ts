@@ -49,7 +49,7 @@ export class InWorker {
      */
     decryptRounds(encrypted: EncryptedSecret, options?: Pick<import("./types.js").DecryptOptions, "passphrase"> | undefined, signal?: AbortSignal | undefined): AsyncGenerator<Uint8Array | null, void, void>;
     /**
-     * Yields what each quorum recovers, as `drill` of the engine does. The worker computes it in parts of a fifth of a second.
+     * Yields what each quorum recovers, as `drill` of the engine does. The worker computes it in parts of about a fifth of a second.
      * @param {Lines} lines
      * @param {DrillOptions} [options]
      * @param {AbortSignal} [signal]
@@ -135,13 +135,6 @@ export type Outcome = import("./types.js").Outcome;
 export type RecoverOptions = import("./types.js").RecoverOptions;
 export type ResplitOptions = import("./types.js").ResplitOptions;
 export type Share = import("./types.js").Share;
+export type Side = import("./side.js").Side;
 export type Status = import("./types.js").Status;
 export type Text = import("./types.js").Text;
-export type Side = {
-    ask(request: unknown): Promise<any>;
-    end(reason: unknown): void;
-};
-export type Answer = {
-    result?: any;
-    error?: unknown;
-};

@@ -7,11 +7,11 @@
  *     const secret = await shamir.recover(mnemonics, { passphrase: "TREZOR" }, AbortSignal.timeout(60_000));
  *     shamir.end();
  *
- * Each call copies its arguments at once, so they may change or be cleared after it. Nobody can clear the copies in the worker: `end` drops
- * them all.
+ * Each call copies its arguments at once (`drill` and `decryptRounds` at the first `next`), so they may change or be cleared after it.
+ * Nobody can clear the copies in the worker: `end` drops them all.
  */
-import { refusalOf } from "./clones.js";
 import { Copies, plain } from "./copies.js";
+import { started } from "./side.js";
 
 /** @typedef {import("./types.js").CreateOptions} CreateOptions */
 /** @typedef {import("./types.js").DecryptOptions} DecryptOptions */
@@ -23,75 +23,20 @@ import { Copies, plain } from "./copies.js";
 /** @typedef {import("./types.js").RecoverOptions} RecoverOptions */
 /** @typedef {import("./types.js").ResplitOptions} ResplitOptions */
 /** @typedef {import("./types.js").Share} Share */
+/** @typedef {import("./side.js").Side} Side */
 /** @typedef {import("./types.js").Status} Status */
 /** @typedef {import("./types.js").Text} Text */
-/** @typedef {{ ask(request: unknown): Promise<any>, end(reason: unknown): void }} Side */
-/** @typedef {{ result?: any, error?: unknown }} Answer */
-
-const THREADS = "node:worker_threads";
-const SIDE = new URL("./worker_side.js", import.meta.url);
-
-/**
- * Starts a worker. What it answers goes to `take`, and what ends it to `fail`.
- * @param {(answer: Answer) => void} take
- * @param {(error: unknown) => void} fail
- * @returns {Promise<{ postMessage(message: unknown): void, terminate(): unknown }>}
- */
-async function newWorker(take, fail) {
-  if (typeof Worker === "function") {
-    const worker = new Worker(SIDE, { type: "module" });
-    worker.onmessage = ({ data }) => take(data);
-    worker.onerror = ({ message }) => fail(new Error(`the worker ended: ${message}`));
-    worker.onmessageerror = () => fail(new Error("the worker's answer can't be read"));
-    return worker;
-  }
-  const threads = await import(THREADS);
-  const worker = new threads.Worker(SIDE);
-  worker.on("message", take).on("error", fail).on("messageerror", fail);
-  worker.on("exit", () => fail(new Error("the worker ended")));
-  return worker;
-}
-
-/**
- * Starts a worker, of which one thing is asked at a time. What it answers after its end is of no call.
- * @param {() => void} forget is called if it ends by itself
- * @returns {Promise<Side>}
- */
-async function started(forget) {
-  const nobody = () => {};
-  /** @type {(answer: Answer) => void} */
-  let take = nobody;
-  /** @type {(error: unknown) => void} */
-  let fail = nobody;
-  const ended = (/** @type {unknown} */ error) => {
-    forget();
-    fail(error);
-  };
-  const worker = await newWorker((answer) => take(answer), ended);
-  const asked = (/** @type {unknown} */ request) =>
-    new Promise((resolve, reject) => {
-      take = ({ result, error }) => (error === undefined ? resolve(result) : reject(refusalOf(error)));
-      fail = reject;
-      worker.postMessage(request);
-    });
-  return {
-    ask: (request) => asked(request).finally(() => ([take, fail] = [nobody, nobody])),
-    end: (reason) => {
-      worker.terminate();
-      fail(reason);
-    },
-  };
-}
 
 /**
  * Returns a copy of an argument, whose arrays have buffers of their own. Options, or an encrypted secret, whose copy would lack what they
- * inherit are refused. What the engine refuses stays as it is.
+ * inherit are refused, and String objects. What else the engine refuses stays as it is.
  * @param {Copies} own
  * @param {any} it
  * @returns {any}
  */
 function copiedIn(own, it) {
-  if (typeof it !== "object" || it === null || it instanceof String) return it;
+  if (it instanceof String) throw new TypeError("an argument is a String object");
+  if (typeof it !== "object" || it === null) return it;
   if (ArrayBuffer.isView(it)) return own.data(it, "an argument");
   if (Symbol.iterator in it) return Array.from(it, (part) => copiedIn(own, part));
   plain(it);
@@ -117,14 +62,21 @@ async function unlessAborted(answer, signal) {
   }
 }
 
+/** @param {(AbortSignal | undefined)[]} signals */
+function heed(signals) {
+  for (const it of signals) it?.throwIfAborted();
+}
+
 /**
- * Yields outcomes. If whoever takes them leaves, it clears the secrets of the others.
+ * Yields outcomes until a signal aborts. If whoever takes them leaves, it clears the secrets of the others.
  * @param {Outcome[]} outcomes
+ * @param {(AbortSignal | undefined)[]} signals
  */
-function* untilLeft(outcomes) {
+function* untilLeft(outcomes, signals) {
   const left = [...outcomes];
   try {
     for (const outcome of outcomes) {
+      heed(signals);
       left.shift();
       yield outcome;
     }
@@ -140,11 +92,12 @@ export class InWorker {
   /** @type {Promise<unknown>} */
   #before = Promise.resolve();
   #ending = new AbortController();
+  #drills = 0;
   #module;
 
   /** @param {URL} [module] Where the module of the engine is, if it isn't beside the package's files. */
   constructor(module) {
-    this.#module = module?.href;
+    this.#module = module === undefined ? undefined : new URL(module).href;
   }
 
   /** Ends the worker, and with it what its memory holds. Unanswered calls fail with an `AbortError`. The next call starts another worker. */
@@ -230,20 +183,22 @@ export class InWorker {
    */
   async *decryptRounds(encrypted, options = {}, signal) {
     const own = new Copies();
+    const ending = this.#ending.signal;
     try {
-      let text = encrypted;
+      const [first, kept] = copiedIn(own, [encrypted, options]);
+      let text = first;
       for (const round of [3, 2, 1]) {
-        text = { ...encrypted, value: own.keep(await this.#call("decryptRound", [text, round, options], signal)) };
+        text = { ...first, value: own.keep(await this.#call("decryptRound", [text, round, kept], signal, ending)) };
         yield null;
       }
-      yield await this.#call("decryptRound", [text, 0, options], signal);
+      yield await this.#call("decryptRound", [text, 0, kept], signal, ending);
     } finally {
       own.clear();
     }
   }
 
   /**
-   * Yields what each quorum recovers, as `drill` of the engine does. The worker computes it in parts of a fifth of a second.
+   * Yields what each quorum recovers, as `drill` of the engine does. The worker computes it in parts of about a fifth of a second.
    * @param {Lines} lines
    * @param {DrillOptions} [options]
    * @param {AbortSignal} [signal]
@@ -251,14 +206,16 @@ export class InWorker {
    */
   async *drill(lines, options = {}, signal) {
     const own = new Copies();
+    const ending = this.#ending.signal;
     try {
       plain(options);
       const [given, kept] = copiedIn(own, [lines, options]);
+      const drill = ++this.#drills;
       for (let after = kept.after, isEnd = false; !isEnd; ) {
-        const part = await this.#call("drill", [given, { ...kept, after }], signal);
+        const part = await this.#call("drill", [given, { ...kept, after }, drill], signal, ending);
         isEnd = part.isEnd;
         after = part.outcomes.at(-1)?.names ?? after;
-        yield* untilLeft(part.outcomes);
+        yield* untilLeft(part.outcomes, [ending, signal]);
       }
     } finally {
       own.clear();
@@ -367,27 +324,28 @@ export class InWorker {
    * @param {string} name
    * @param {unknown[]} given
    * @param {AbortSignal | undefined} signal
+   * @param {AbortSignal} [ending] aborts if the worker to which the call belongs is ended
    * @returns {Promise<any>}
    */
-  async #call(name, given, signal) {
+  async #call(name, given, signal, ending = this.#ending.signal) {
     const own = new Copies();
-    const ending = this.#ending.signal;
     const stop = () => this.#drop(signal?.reason);
-    const run = async () => {
-      try {
-        for (const it of [ending, signal]) it?.throwIfAborted();
+    try {
+      const copies = copiedIn(own, given);
+      const run = async () => {
+        heed([ending, signal]);
         const side = await (this.#side ??= this.#start());
-        for (const it of [ending, signal]) it?.throwIfAborted();
+        heed([ending, signal]);
         signal?.addEventListener("abort", stop);
-        return await side.ask({ name, given: copies, module: this.#module });
-      } finally {
-        signal?.removeEventListener("abort", stop);
+        const answer = side.ask({ name, given: copies, module: this.#module });
         own.clear();
-      }
-    };
-    const copies = copiedIn(own, given);
-    const answer = this.#before.then(run);
-    this.#before = answer.then(() => {}, () => {});
-    return signal === undefined ? answer : unlessAborted(answer, signal);
+        return answer.finally(() => signal?.removeEventListener("abort", stop));
+      };
+      const answer = this.#before.then(run);
+      this.#before = answer.then(() => {}, () => {});
+      return await (signal ? unlessAborted(answer, signal) : answer);
+    } finally {
+      own.clear();
+    }
   }
 }

@@ -1,5 +1,5 @@
 /** What runs in the worker of `worker.js`: it makes one call after the other. */
-import { open } from "./index.js";
+import { open, Refusal } from "./index.js";
 
 /** @typedef {import("./types.js").Outcome} Outcome */
 /** @typedef {{ name: string, given: any[], module: string | undefined }} Request */
@@ -11,22 +11,30 @@ const THREADS = "node:worker_threads";
 /** @type {Promise<import("./shamir.js").Engine> | undefined} */
 let opened;
 
+/** The drill that the last part was of, since each start derives the key anew. */
+let going = { drill: 0, outcomes: /** @type {Iterator<Outcome, void>} */ ([].values()) };
+
 /**
  * Returns the outcomes of a drill for a while, and whether that was its end.
  * @param {import("./shamir.js").Engine} engine
  * @param {any[]} given
  */
-function part(engine, given) {
+function part(engine, [lines, options, drill]) {
+  if (going.drill !== drill) {
+    going.outcomes.return?.();
+    going = { drill, outcomes: engine.drill(lines, options) };
+  }
   // The engine finds outcomes together, and the first of them may take long.
   let start = Infinity;
   /** @type {Outcome[]} */
   const outcomes = [];
-  for (const outcome of engine.drill(given[0], given[1])) {
-    outcomes.push(outcome);
+  for (;;) {
+    const { done, value } = going.outcomes.next();
+    if (done) return { outcomes, isEnd: true };
+    outcomes.push(/** @type {Outcome} */ (value));
     start = Math.min(start, performance.now());
     if (performance.now() - start > PART_MILLISECONDS) return { outcomes, isEnd: false };
   }
-  return { outcomes, isEnd: true };
 }
 
 /**
@@ -41,7 +49,7 @@ async function answered({ name, given, module }) {
     const call = /** @type {Record<string, (...given: any[]) => unknown>} */ (/** @type {unknown} */ (engine))[name];
     return { result: name === "drill" ? part(engine, given) : call.apply(engine, given) };
   } catch (error) {
-    return { error };
+    return { error, cause: error instanceof Refusal ? error.cause : undefined };
   }
 }
 

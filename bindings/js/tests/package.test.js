@@ -226,6 +226,24 @@ test("a call in a worker copies its arguments at once", async () => {
   shamir.end();
 });
 
+test("what comes in parts has the arguments of its first part, and ends with its worker", async () => {
+  const shamir = new InWorker(MODULE);
+  const passphrase = new TextEncoder().encode("TREZOR");
+  const rounds = shamir.decryptRounds(ENCRYPTED[2], { passphrase });
+  await rounds.next();
+  passphrase.fill(0);
+  assert.deepEqual([(await rounds.next()).value, (await rounds.next()).value, (await rounds.next()).value], [null, null, SECRET]);
+  const stopped = new AbortController();
+  const parts = [shamir.decryptRounds(ENCRYPTED[2], KEY), shamir.drill(FIVE, KEY), shamir.drill(FIVE, KEY, stopped.signal)];
+  for (const it of parts) await it.next();
+  stopped.abort();
+  await assert.rejects(parts[2].next(), { name: "AbortError" });
+  shamir.end();
+  for (const it of parts.slice(0, 2)) await assert.rejects(it.next(), { name: "AbortError" });
+  assert.deepEqual(await shamir.words("aca"), ["academic"]);
+  shamir.end();
+});
+
 test("a signal stops its own call alone, also while it waits", async () => {
   const shamir = new InWorker(MODULE);
   const stopped = new AbortController();
