@@ -3,8 +3,9 @@
 #
 #     sh examples/ask.sh FILE
 #
-# Only you and root can read FILE. If the passphrase is empty, if the two differ, or if it can't be written, there is no FILE
-# afterwards, so that a command that names it is refused. Nothing stays in a variable of your shell.
+# Only you and root can read FILE. If the passphrase is empty, if the two differ, or if it can't be written, the status is 1, and there
+# is no FILE afterwards, so that a command that names it is refused. But an old FILE stays if you may not remove it. Nothing stays in
+# a variable of your shell.
 set -euC
 
 ask() {
@@ -36,8 +37,8 @@ ask 'passphrase'
 passphrase=$answer
 ask 'the same again'
 [ "$answer" = "$passphrase" ] || refuse 'The two differ'
-# With -C, nothing is written into a file that somebody else made meanwhile.
-printf '%s' "$passphrase" > "$1" || {
+# Nothing is written into what somebody else made meanwhile: -C refuses a file, and -e a pipe, too.
+{ [ ! -e "$1" ] && printf '%s' "$passphrase" > "$1"; } || {
     rm -f -- "$1"
     refuse "$1 can't be written"
 }

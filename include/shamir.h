@@ -829,8 +829,8 @@ void shamir_wipe(void *buffer, size_t buffer_bytes);
  * Set lines to a buffer of lines_bytes bytes, and all other fields to 0. Then shamir_papers_add takes one mnemonic after the other,
  * and gives the answer and the text of shamir_judge. It keeps a mnemonic that isn't there yet, in lower-case words with single
  * spaces. If the buffer has no room for it, the code is 1, and the field first is the number of bytes that it takes. The code is
- * 1, too, if text has fewer than SHAMIR_STATUS_BYTES_MAX bytes and the answer takes more. If a mnemonic is refused, no field of
- * the struct changes. If the code is 1 or 4, text may be changed.
+ * 1, too, if the status takes more bytes than text has; SHAMIR_STATUS_BYTES_MAX are always enough. If a mnemonic is refused, no
+ * field of the struct changes. If the code is 1 or 4, text may be changed.
  *
  * The field backup has the lines of the backup of the mnemonic that came last. Calls that take lines take them.
  * shamir_papers_recover calls shamir_recover with them. A NUL ends its passphrase and its fingerprint. If the fingerprint is NULL,

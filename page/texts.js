@@ -28,7 +28,7 @@ export const TEXTS = {
   "names.sentence": "Each paper has a name of 2 numbers: its group, and its place in the group. Both count from 0. So the first paper is 0.0, and the next one of its group is 0.1.",
   "help.title": "Help",
   "help.needed": "How many papers do I need?",
-  "help.needed.answer": "As many as the plan says: with the plan 'Any 2 of 3 papers', 2. 'What is this paper?' says of each paper how many others are needed.",
+  "help.needed.answer": "As many as the plan says: with the plan 'Any 2 of 3 papers', you need 2. 'What is this paper?' says of each paper how many others are needed.",
   "help.quorum": "What are a quorum and a drill?",
   "help.quorum.answer": "A quorum is a set of papers that is just enough to recover the secret. A drill tries each quorum of your papers, and compares what it gives with the fingerprint that you noted.",
   "help.fingerprint": "What is the fingerprint?",

@@ -97,6 +97,8 @@ def earlier(path: str, drill: Drill, whole: Quorums) -> Tuple[int, bool, bool]:
     was cut is taken off the file."""
     if not os.path.exists(path):
         return 0, True, False
+    if not os.path.isfile(path):
+        raise Failed(3, "the list needs a regular file")
     with open(path, "rb") as file:
         data = file.read()
     end = data.rfind(b"\n") + 1
@@ -227,10 +229,15 @@ def readable(word: str) -> str:
     return os.fsencode(word).decode("utf-8", "replace")
 
 
+def named(word: str) -> str:
+    """Return a word of the command as the name of a file, in the form in which `devices` takes it, whatever the locale is."""
+    return os.fsencode(word).decode("utf-8", "surrogateescape")
+
+
 def main() -> None:
     parser = Parser(prog="python3 -m shamir.drill_all", description="Drills on all cores: tries each quorum of the mnemonics on standard input.")
     parser.add_argument("--expect", metavar="FINGERPRINT", type=readable, help="list whether each secret has this fingerprint; without it, list each fingerprint")
-    parser.add_argument("--passphrase-file", metavar="FILE", help="read the passphrase from FILE")
+    parser.add_argument("--passphrase-file", metavar="FILE", type=named, help="read the passphrase from FILE (-: from the first line of the input)")
     parser.add_argument("--into", metavar="FILE", help="write the list to FILE, and go on where it ends")
     parser.add_argument("--jobs", metavar="N", type=int, default=cores(), help="how many cores (all)")
     args = parser.parse_args()
@@ -238,6 +245,8 @@ def main() -> None:
         parser.error("N is 1 or more")
     try:
         data = devices.Input()
+        if data.is_terminal and args.passphrase_file == devices.INPUT:
+            tell("shamir.drill_all: the passphrase is shown as it is typed\n")
         passphrase = devices.read_values(None, args.passphrase_file, data).passphrase or b""
         drill = Drill(data.rest(), passphrase, args.expect)
         status, why = (0 if drilled(drill, args.jobs, args.into) else 1), ""

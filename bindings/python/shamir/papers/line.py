@@ -143,6 +143,9 @@ class Line:
         if len(found) == 1:
             self._end_word()
             self._add(b" ")
+        elif letters and not found:
+            # In a paste, a tab may come after a number, a mark or a misspelled word.
+            self._add(b" ")
         elif found:
             count = max(at for at in range(len(letters), len(min(found, key=len)) + 1) if len({word[:at] for word in found}) == 1)
             if count > len(letters):
