@@ -61,7 +61,8 @@ INSTALL ?= install
 LDCONFIG ?= ldconfig
 PREFIX ?= /usr/local
 BINDIR ?= $(PREFIX)/bin
-# With 711 and root as its owner, a user can run the program and can't read it. Then, if fs.suid_dumpable is 0, it leaves no core file (SECURITY.md).
+# With 711 and root as its owner, a user can run the program and can't read it. Then, if fs.suid_dumpable is 0, it leaves no core
+# file (SECURITY.md).
 BINMODE ?= 755
 LIBDIR ?= $(PREFIX)/lib
 INCLUDEDIR ?= $(PREFIX)/include
