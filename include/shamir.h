@@ -39,7 +39,7 @@
  *
  * Before a call that gets a secret, a passphrase or a mnemonic returns, it clears the stack that it used. This is tested, not
  * proved. It clears no registers. The caller clears its own buffers, with shamir_wipe. examples/c/cleared.c keeps them out of swap
- * and core files too. The time of a call can depend on secrets. docs/LIBRARY.md says what is promised and what isn't.
+ * and core files too. The time of a call can depend on secrets. docs/PROOFS.md says what is proved and what isn't.
  */
 #ifndef SHAMIR_H
 #define SHAMIR_H
@@ -416,9 +416,9 @@ shamir_answer shamir_decrypt(
  * Undoes one of the four rounds of the cipher, so that a program can show how far a decryption is, and stop it.
  *
  * *parameters and passphrase are as for shamir_decrypt. Call it with the rounds 3, 2, 1 and 0, in this order: first with the encrypted
- * secret, and then with what the call before gave, in another buffer than undone. The first call has the answer of shamir_decrypt
- * without an expected fingerprint, and no later one is refused if there is room. The last text is the secret that shamir_decrypt gives.
- * Each call takes a quarter of its iterations.
+ * secret, and then with what the call before gave, which must be in another buffer than undone. The first call has the answer of
+ * shamir_decrypt without an expected fingerprint, and no later one is refused if there is room. The last text is the secret that
+ * shamir_decrypt gives. Each call takes a quarter of its iterations.
  *
  * The text with this round undone goes to the start of undone. written is its length, which is encrypted_bytes. Clear each text:
  * passphrases can be tried on it with fewer iterations than on the encrypted secret, and after round 1 it ends with the second half of

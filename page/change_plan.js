@@ -98,7 +98,7 @@ async function split(desk, { planned }) {
 async function renew(desk, chosen, kind) {
   const { planned } = chosen;
   while (await askPlan(desk, planned, { title: say("change.plan"), step: 2 })) {
-    while (await askWallet(desk, chosen, { title: say("change.wallet"), step: 3 })) {
+    while (await askWallet(chosen, { title: say("change.wallet"), step: 3 })) {
       const words = await renewWith(desk, { plan: planText(planned.plan), extendable: chosen.wallet === "flag" }, kind);
       if (words) return words;
     }

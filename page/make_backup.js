@@ -59,7 +59,7 @@ export async function makeBackup(desk) {
 async function planAndCreate(desk) {
   const [planned, chosen] = [new PlanChoice(), { ...USUAL }];
   while (await askPlan(desk, planned, { title: say("make.plan"), step: 1 })) {
-    while (await askWallet(desk, chosen, { title: say("make.wallet"), step: 2, asksWords: true })) {
+    while (await askWallet(chosen, { title: say("make.wallet"), step: 2, asksWords: true })) {
       const words = await create(desk, planned.plan, chosen);
       if (words !== null) return { plan: planned.plan, isOwn: chosen.source === "own", words };
     }

@@ -5,7 +5,6 @@ import { USUAL_WORDS } from "./paper_entry.js";
 import { say } from "./say.js";
 import { ask, setStep } from "./screen.js";
 
-/** @typedef {import("./client.js").Desk} Desk */
 /** @typedef {"flag" | "older" | "unknown"} Wallet a wallet that knows the extendable flag, an older one, or one of which the owner can't say */
 /** @typedef {{wallet: Wallet | null, words: number}} Asked the wallet, and how many words each paper of a new secret has */
 
@@ -13,15 +12,13 @@ import { ask, setStep } from "./screen.js";
  * Asks which wallet will read the papers. What was chosen is kept, also on the way back. Returns whether one is chosen; if not, the owner
  * goes back.
  *
- * @param {Desk} desk
  * @param {Asked} chosen
  * @param {{title: string, step: number, asksWords?: boolean}} what `asksWords` says that there may be a new secret
  */
-export async function askWallet(desk, chosen, { title, step, asksWords = false }) {
+export async function askWallet(chosen, { title, step, asksWords = false }) {
   setStep(step);
-  const { version } = desk.begun;
   const keys = /** @type {const} */ (["flag", "older", "unknown"]);
-  const wallets = keys.map((key) => ({ key, label: say(`wallet.${key}`), hint: say(`wallet.${key}.hint`, { version }) }));
+  const wallets = keys.map((key) => ({ key, label: say(`wallet.${key}`), hint: say(`wallet.${key}.hint`) }));
   const asked = [choice(say("wallet.legend"), wallets, chosen.wallet, (key) => (chosen.wallet = key)), paragraph(say("wallet.what"), "hint")];
   if (asksWords) {
     const counts = USUAL_WORDS.map((count) => ({ key: String(count), label: say("entry.words", { count }), hint: say(`wallet.words.${count}.hint`) }));

@@ -12,6 +12,7 @@ refused, 2 if the words of the command are wrong or FILE isn't the beginning of 
 read or written, and 130 after Ctrl-C. Standard error says why.
 """
 import concurrent.futures
+import math
 import os
 import sys
 import threading
@@ -26,9 +27,11 @@ from shamir.cuts import Parser, Quorums, quorums, tell
 
 # A thread gets twice the stack that the library needs at most.
 STACK_BYTES = 1 << 20
-# A part takes about so many seconds, so that an interruption loses little.
+# A part takes about so many seconds besides the key derivation, so that an interruption loses little.
 PART_SECONDS = 1.0
 PART_MAX = 4096
+# A part has at most so many times as many quorums as one before it.
+GROWTH = 4
 END = b"end\n"
 OTHER = "the file isn't the beginning of this drill"
 
@@ -166,12 +169,16 @@ def parts(begin: int, total: int, size: Callable[[], int]) -> Iterator[Tuple[int
 def run(drill: Drill, whole: Quorums, begin: int, jobs: int, write: Callable[[bytes], None]) -> bool:
     """Write the lines of the quorums from a position on, in order. Return whether all is well with them."""
     total, sizes, wrongs = whole.count(), [1], 0
+    # The shortest part shows what a part takes however small it is, such as the key derivation.
+    shortest = [math.inf]
     progress = Progress(begin, total)
 
     def part(at: int, count: int) -> Tuple[bytes, int]:
         started = time.monotonic()
         found = drill.listed(whole.names(at - 1) if at else None, count)
-        sizes[0] = max(1, min(PART_MAX, int(PART_SECONDS * count / max(time.monotonic() - started, 0.001))))
+        seconds = time.monotonic() - started
+        shortest[0] = min(shortest[0], seconds)
+        sizes[0] = max(1, min(PART_MAX, GROWTH * count, int(PART_SECONDS * count / max(seconds - shortest[0], 0.001))))
         return found
 
     threading.stack_size(STACK_BYTES)

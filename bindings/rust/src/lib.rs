@@ -46,8 +46,8 @@
 //!
 //! # The library
 //!
-//! `build.rs` compiles the library as plain C, or links a `libshamir.a`: README.md says how to choose. As plain
-//! C, the library is proved up to the module for WebAssembly from which it is made, and each call takes a block of memory from
+//! `build.rs` compiles the library as plain C, or links a `libshamir.a`: README.md says how to choose. For plain
+//! C, the proofs end at the sources of the WebAssembly module from which it is made, and each call takes a block of memory from
 //! `malloc` ([`Error::NoMemory`]).
 //!
 //! # Secrets in memory

@@ -60,7 +60,7 @@ def ask_wallet(screen: Screen, title: str, choices: Choices, asks_words: bool = 
         screen.clear(title)
         screen.tell(say("wallet.legend"))
         for number, key in enumerate(["flag", "older", "unknown"], 1):
-            screen.item(f"{say(f'wallet.{key}')}. {say(f'wallet.{key}.hint', version=shamir.__version__)}", f"{number}  ")
+            screen.item(f"{say(f'wallet.{key}')}. {say(f'wallet.{key}.hint')}", f"{number}  ")
         screen.gap()
         screen.tell(say("wallet.what"))
         choices.extendable = screen.choose(say("new.wallet"), {"1": True, "2": False, "3": False}, has_back=True)
