@@ -135,6 +135,5 @@ export type Outcome = import("./types.js").Outcome;
 export type RecoverOptions = import("./types.js").RecoverOptions;
 export type ResplitOptions = import("./types.js").ResplitOptions;
 export type Share = import("./types.js").Share;
-export type Side = import("./side.js").Side;
 export type Status = import("./types.js").Status;
 export type Text = import("./types.js").Text;

@@ -23,7 +23,6 @@ import { started } from "./side.js";
 /** @typedef {import("./types.js").RecoverOptions} RecoverOptions */
 /** @typedef {import("./types.js").ResplitOptions} ResplitOptions */
 /** @typedef {import("./types.js").Share} Share */
-/** @typedef {import("./side.js").Side} Side */
 /** @typedef {import("./types.js").Status} Status */
 /** @typedef {import("./types.js").Text} Text */
 
@@ -87,7 +86,7 @@ function* untilLeft(outcomes, signals) {
 
 /** The engine in a worker of its own, which starts at the first call. Calls run one after the other. */
 export class InWorker {
-  /** @type {Promise<Side> | undefined} */
+  /** @type {Promise<import("./side.js").Side> | undefined} */
   #side;
   /** @type {Promise<unknown>} */
   #before = Promise.resolve();
@@ -107,7 +106,7 @@ export class InWorker {
     this.#ending = new AbortController();
   }
 
-  /** @returns {Promise<Side>} */
+  /** @returns {Promise<import("./side.js").Side>} */
   #start() {
     const forget = () => {
       if (side === this.#side) this.#side = undefined;

@@ -12,7 +12,7 @@ const THREADS = "node:worker_threads";
 let opened;
 
 /** The drill that the last part was of, since each start derives the key anew. */
-let going = { drill: 0, outcomes: /** @type {Iterator<Outcome, void>} */ ([].values()) };
+let going = { drill: 0, outcomes: /** @type {Iterator<Outcome, void>} */ ([].values()), slowest: 0 };
 
 /**
  * Returns the outcomes of a drill for a while, and whether that was its end.
@@ -21,19 +21,23 @@ let going = { drill: 0, outcomes: /** @type {Iterator<Outcome, void>} */ ([].val
  */
 function part(engine, [lines, options, drill]) {
   if (going.drill !== drill) {
+    // If this throws, the drill before stays as it is.
+    const outcomes = engine.drill(lines, options);
     going.outcomes.return?.();
-    going = { drill, outcomes: engine.drill(lines, options) };
+    going = { drill, outcomes, slowest: 0 };
   }
-  // The engine finds outcomes together, and the first of them may take long.
-  let start = Infinity;
+  const start = performance.now();
   /** @type {Outcome[]} */
   const outcomes = [];
-  for (;;) {
+  for (let before = start; ; ) {
     const { done, value } = going.outcomes.next();
     if (done) return { outcomes, isEnd: true };
     outcomes.push(/** @type {Outcome} */ (value));
-    start = Math.min(start, performance.now());
-    if (performance.now() - start > PART_MILLISECONDS) return { outcomes, isEnd: false };
+    const now = performance.now();
+    going.slowest = Math.max(going.slowest, now - before);
+    before = now;
+    // The engine finds outcomes together. If that takes long, none of them waits until it has found others.
+    if (Math.max(going.slowest, now - start) > PART_MILLISECONDS) return { outcomes, isEnd: false };
   }
 }
 

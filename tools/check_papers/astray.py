@@ -101,9 +101,14 @@ def check_replace_again():
         owner.answer(paper_prompt(1), "b")
         owner.answer(say("home.choose"), "replace")
         owner.answer(say("replace.how"), "1")
-        owner.wait(paper_prompt(1))
-        owner.type("\x04")
-        owner.end(130, "ended.replaced")
+        other = papers_of("3of5")
+        owner.collect(other[:2])
+        owner.answer(say("more.papers"), other[2])
+        owner.answer(paper_prompt(4), "")
+        # What was written before is none of these papers, so the missing one is asked for.
+        owner.answer(say("replace.choose.only"), "0.3")
+        owner.wait(say("new.write"))
+        end_by_keys(owner)
 
 
 def check_too_few():

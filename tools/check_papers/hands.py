@@ -29,7 +29,7 @@ SEED = random.SystemRandom().randrange(1 << 32)
 MORE = say("screen.more") + " "
 END = f"{say('end.ask')} (y/n)"
 # What the program says of the papers if it ends before the task does.
-ENDS = ["ended", *(f"ended.{it}" for it in ("unfinished", "changing", "made", "replaced", "repaired"))]
+ENDS = ["ended", *(f"ended.{it}" for it in ("unfinished", "changing", "changed", "made", "replaced", "repaired"))]
 
 
 class Interrupted(Exception):

@@ -158,7 +158,23 @@ def check_taken_out():
         owner.finish(say("next.good"), "closed")
 
 
+def check_whole():
+    """A damaged paper that can be read in full, and is written anew: a good drill with it shows that it works, and nothing is to be kept."""
+    with started("repair") as owner:
+        owner.answer(say("damaged.ask"), THREE_GROUPS[0])
+        owner.answer(say("damaged.menu"), "w")
+        owner.answer(say("new.write"), "")
+        owner.type_paper(say("back.ask", name="0.0"), THREE_GROUPS[0])
+        owner.collect(THREE_GROUPS[1:4], 2)
+        owner.passphrase(PASSPHRASE, FINGERPRINT)
+        owner.wait(say("next.good"))
+        owner.expect(say("replace.right.one", names="0.0"))
+        owner.lacks(say("damaged.keep"))
+        owner.finish(say("next.good"), "closed")
+
+
 CHECKS = [
+    check_whole,
     check_refused_repaired,
     check_read_later,
     check_miswritten,

@@ -244,6 +244,21 @@ test("what comes in parts has the arguments of its first part, and ends with its
   shamir.end();
 });
 
+test("a drill that can't begin ends no other", async () => {
+  const shamir = new InWorker(MODULE);
+  const lines = await shamir.create("2/5of10,5of10", SECRET);
+  const drill = shamir.drill(lines, { fingerprints: true });
+  await drill.next();
+  // No part has all 63,504 quorums, so the worker is asked for more after these calls.
+  for (const [given, options] of [[lines, { limit: 1 }], [lines, { passphrase: "\ud83d" }], [[lines.join("\n")], {}]]) {
+    await assert.rejects(shamir.drill(given, options).next());
+  }
+  let tried = 1;
+  for await (const { fingerprint } of drill) tried += fingerprint === "df41d8fe" ? 1 : 0;
+  assert.equal(tried, 63504);
+  shamir.end();
+});
+
 test("a signal stops its own call alone, also while it waits", async () => {
   const shamir = new InWorker(MODULE);
   const stopped = new AbortController();

@@ -58,7 +58,7 @@ def _change(screen: Screen, desk: Desk) -> str:
         new.clear()
     screen.hold("")
     if verdict is not None:
-        desk.written = "made"
+        desk.written = "changed"
         _tell_done(screen, desk, plan, verdict)
     return "e"
 

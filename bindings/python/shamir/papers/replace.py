@@ -35,7 +35,7 @@ def replace_paper(screen: Screen, desk: Desk) -> None:
 def _replace_destroyed(screen: Screen, desk: Desk) -> None:
     typed: Optional[str] = ""
     while typed is not None:
-        is_untried = desk.written == "replaced" and bool(desk.papers) and not desk.status().enough
+        is_untried = any(it.is_rewritten for it in desk.papers) and not desk.status().enough
         collect(screen, desk, say("replace.title"), say("replace.intro"), "replace", typed)
         if is_untried and desk.status().enough:
             typed = _drill(screen, desk)
