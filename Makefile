@@ -413,7 +413,7 @@ RUN_PAPERS = import sys; sys.path[:] = filter(None, sys.path); from shamir.paper
 install-papers:
 	$(INSTALL) -d "$(DESTDIR)$(BINDIR)" "$(DESTDIR)$(MANDIR)/man1" "$(DESTDIR)$(BASHDIR)" "$(DESTDIR)$(ZSHDIR)" "$(DESTDIR)$(FISHDIR)" \
 		"$(DESTDIR)$(PYTHONDIR)/shamir/command" "$(DESTDIR)$(PYTHONDIR)/shamir/papers"
-	printf '#!/bin/sh\nexec env "SHAMIR_LIBRARY=%s" "PYTHONPATH=%s" python3 -B -c "%s" "$$@"\n' "$(LIBDIR)/$(SONAME)" "$(PYTHONDIR)" "$(RUN_PAPERS)" > "$(DESTDIR)$(BINDIR)/shamir-papers"
+	printf '#!/bin/sh\ntest -f "%s" || { echo "shamir-papers: %s is missing" >&2; exit 1; }\nexec env "SHAMIR_LIBRARY=%s" "PYTHONPATH=%s" python3 -B -c "%s" "$$@"\n' "$(LIBDIR)/$(SONAME)" "$(LIBDIR)/$(SONAME)" "$(LIBDIR)/$(SONAME)" "$(PYTHONDIR)" "$(RUN_PAPERS)" > "$(DESTDIR)$(BINDIR)/shamir-papers"
 	chmod 755 "$(DESTDIR)$(BINDIR)/shamir-papers"
 	$(INSTALL) -m 644 bindings/python/shamir/*.py bindings/python/shamir/py.typed "$(DESTDIR)$(PYTHONDIR)/shamir"
 	$(INSTALL) -m 644 bindings/python/shamir/command/*.py "$(DESTDIR)$(PYTHONDIR)/shamir/command"

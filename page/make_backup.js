@@ -155,7 +155,7 @@ class MoreFields {
     const time = element("p", { class: "hint" });
     const tell = () => {
       const seconds = desk.secondsFor({ exponent: this.exponent, secretBytes: secret.secretBytes });
-      time.textContent = this.#isExponent ? say("more.time", { time: saidTime(seconds) }) : "";
+      time.textContent = this.isExponent ? say("more.time", { time: saidTime(seconds) }) : "";
       this.#dice.box.hidden = secret.source === "own";
     };
     this.#exponent = labelled(say("more.exponent"), "number", {
@@ -172,7 +172,8 @@ class MoreFields {
     return Number(this.#exponent.field.value);
   }
 
-  get #isExponent() {
+  /** Whether the exponent can be taken. */
+  get isExponent() {
     const { value } = this.#exponent.field;
     return /^\d+$/.test(value) && Number(value) <= this.#most;
   }
@@ -188,7 +189,7 @@ class MoreFields {
   }
 
   missing() {
-    if (!this.#isExponent) return say("more.exponent.wrong");
+    if (!this.isExponent) return say("more.exponent.wrong");
     const [throws, least] = [this.#throws, THROWS_LEAST.get(this.#secret.secretBytes) ?? 0];
     if (/[^1-6]/.test(throws)) return say("more.dice.wrong");
     return throws === "" || throws.length >= least ? null : say("more.dice.few", { count: throws.length, least });
@@ -220,7 +221,7 @@ async function create(desk, plan, chosen) {
       chosen.source = secret.source;
       chosen.hasThrows ||= more.hasThrows;
       if (secret.source === "own") chosen.noted = (await secret.noted()) ?? chosen.noted;
-      if (more.missing() === null) chosen.exponent = more.exponent;
+      if (more.isExponent) chosen.exponent = more.exponent;
       return null;
     };
     const take = async () => {

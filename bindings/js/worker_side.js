@@ -12,7 +12,7 @@ const THREADS = "node:worker_threads";
 let opened;
 
 /** The drill that the last part was of, since each start derives the key anew. */
-let going = { drill: 0, outcomes: /** @type {Iterator<Outcome, void>} */ ([].values()), slowest: 0 };
+let going = { drill: 0, outcomes: /** @type {Iterator<Outcome, void>} */ ([].values()) };
 
 /**
  * Returns the outcomes of a drill for a while, and whether that was its end.
@@ -21,23 +21,21 @@ let going = { drill: 0, outcomes: /** @type {Iterator<Outcome, void>} */ ([].val
  */
 function part(engine, [lines, options, drill]) {
   if (going.drill !== drill) {
-    // If this throws, the drill before stays as it is.
+    // If this throws, the drill before goes on.
     const outcomes = engine.drill(lines, options);
     going.outcomes.return?.();
-    going = { drill, outcomes, slowest: 0 };
+    going = { drill, outcomes };
   }
-  const start = performance.now();
+  // The engine finds outcomes together, and the first of them may take long.
+  let start = Infinity;
   /** @type {Outcome[]} */
   const outcomes = [];
-  for (let before = start; ; ) {
+  for (;;) {
     const { done, value } = going.outcomes.next();
     if (done) return { outcomes, isEnd: true };
     outcomes.push(/** @type {Outcome} */ (value));
-    const now = performance.now();
-    going.slowest = Math.max(going.slowest, now - before);
-    before = now;
-    // The engine finds outcomes together. If that takes long, none of them waits until it has found others.
-    if (Math.max(going.slowest, now - start) > PART_MILLISECONDS) return { outcomes, isEnd: false };
+    start = Math.min(start, performance.now());
+    if (performance.now() - start > PART_MILLISECONDS) return { outcomes, isEnd: false };
   }
 }
 

@@ -102,6 +102,7 @@ def check_sources():
     sources.check(ROOT / "page")
     sources.check_types(ROOT / "page")
     decisions.check()
+    faults.check_places()
 
 
 def checked(given):

@@ -1,17 +1,14 @@
 """What an owner is asked on the way to a backup: the wallet, a plan with a danger, and what was noted. What is green, what has a sign, and
 what one paper says."""
-import json
 
 from browsers import Failed
 from refusals import said
-from samples import BAD_CHECKSUM, BIP39, FINGERPRINT, PASSPHRASE, ROOT, SECRET, SOUND_PAPER, THREE_GROUPS, TWO, changed, fingerprint_of, name_of, said_kind
+from samples import BAD_CHECKSUM, BIP39, FINGERPRINT, PASSPHRASE, SECRET, SOUND_PAPER, THREE_GROUPS, TWO, changed, fingerprint_of, name_of, said_kind
 from tasks import answer_passphrase, begin, choose_wallet, clear, create, drill, end, paste, read_paper, type_digits, type_paper, type_passphrase, write_down
 from texts import counted, say
 
 import plain
 
-# The version that the page tells, as the package of the engine has it.
-VERSION = json.loads((ROOT / "bindings/js/package.json").read_text())["version"]
 # Returns the texts that are green, or in a green frame, and the classes of those that have none.
 GREEN = """
 (() => {
@@ -50,7 +47,7 @@ def check_wallet(page, see):
     page.push(say("continue"), to=say("make.wallet"))
     page.push(say("continue"))
     page.wait_text(say("wallet.missing"))
-    page.wait_text(f"only shamir {VERSION} was tried")
+    page.wait_text(say("wallet.flag.hint"))
     see("which wallet")
     page.choose(say("wallet.older"))
     page.lacks(say("wallet.missing"), "what was missing stays after it was chosen")

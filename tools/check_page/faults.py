@@ -194,7 +194,6 @@ FAULTS = [
     ("words that were found can't be denied", "page/read_damaged.js", "open && fits.length ? this.#denial(isOneOfTwo) : null", "null", of_page(lambda page: entry.check_damaged(page, unseen))),
     ("words that were denied stay", "page/read_damaged.js", '      this.#changed();\n      this.#entry.say(say("damaged.no.then")', '      this.#entry.say(say("damaged.no.then")', of_page(lambda page: entry.check_damaged(page, unseen))),
     ("the wallet's number of words doesn't count", "page/make_backup.js", "this.#bytes = BYTES[words];", "this.#bytes = 16;", of_page(lambda page: choices.check_wallet(page, unseen))),
-    ("another version is said to have been tried", "page/wallet.js", "const { version } = desk.begun;", 'const version = "0.9";', of_page(lambda page: choices.check_wallet(page, unseen))),
     ("what a paper is stands out of sight", "page/tell_paper.js", "this.#entry.below.append(this.#found);", "this.#entry.element.append(this.#found);", of_page(lambda page: choices.check_what(page, unseen))),
     ("a screen scrolls a little", "page/style.css", "main { padding-bottom: 1.5rem; }", "main { padding-bottom: 4rem; }", of_page(lambda page: choices.check_phone(page, unseen))),
     ("the button of a paper wraps", "page/style.css", ".rows li { display: flex;", ".rows li { display: flex; flex-wrap: wrap; ", of_page(lambda page: choices.check_phone(page, unseen))),
@@ -218,7 +217,7 @@ FAULTS = [
     ("a task that fails doesn't say what becomes of papers", "page/main.js", '"bad"), half]', '"bad")]', of_page(lambda page: hasty.check_fault(page, unseen))),
     ("found words are told beside others", "page/read_damaged.js", "marks);\n      if (changes !== this.#changes) return OUTDATED;\n", "marks);\n", of_page(lambda page: hasty.check_late_answer(page, unseen))),
     ("throws of a die are lost on the way back", "page/make_backup.js", "      chosen.hasThrows ||= more.hasThrows;\n", "", of_page(lambda page: choices.check_dice(page, unseen))),
-    ("a time is told for an exponent that there isn't", "page/make_backup.js", "this.#isExponent ? say(", "true ? say(", of_page(lambda page: steps.check_chosen(page, unseen))),
+    ("a time is told for an exponent that there isn't", "page/make_backup.js", "this.isExponent ? say(", "true ? say(", of_page(lambda page: steps.check_chosen(page, unseen))),
     ("an old question forgets a paper", "page/collect.js", "    dropQuestion();\n", "", of_page(lambda page: second_thoughts.check_question(page, unseen))),
     ("a long paste is compared as a whole", "page/spelling.js", "typed.slice(0, COMPARED_MOST)", "typed", of_page(lambda page: second_thoughts.check_long_paste(page, unseen))),
     ("a hidden tab keeps what a screen reader was told", "page/screen.js", '  announce("");\n', "", of_page(lambda page: second_thoughts.check_offered(page, unseen))),
@@ -261,6 +260,14 @@ def plant(engine, folder, path, old, new, check_it, times=1):
     if target != made:
         ran(build)
     return lambda: check_it(folder, made.as_uri())
+
+
+def check_places():
+    """Checks that each fault still has its place."""
+    for _, path, old, new, _, *times in FAULTS:
+        # Some faults are planted in the page that is made.
+        if (ROOT / path).parent != ROOT:
+            planted.changed((ROOT / path).read_text(), old, new, path, *times)
 
 
 def check(engine):

@@ -28,7 +28,10 @@ PARTS = ["looks", "ends", "refusals", "slips", "astray", "pasted", "repaired", "
 
 
 def check_entry(_):
-    """Runs the unit tests, which need no terminal."""
+    """Runs the unit tests, which need no terminal, and sees that faults can still be planted."""
+    import faults
+
+    faults.check_places()
     tests = sorted(map(str, (ROOT / "bindings" / "python" / "tests").glob("test_papers*.py")))
     say_skipped(tested([sys.executable, "-B", "-m", "unittest", "--verbose", *tests]))
 

@@ -46,6 +46,10 @@ def check_left_out():
                 owner.expect(counted(left, "left"))
                 owner.answer(say("next.good"), "p")
                 number = 7 - left
+                owner.wait(paper_prompt(number))
+                owner.type("\x03")
+                owner.wait(END)
+                owner.answer(END, "n")
                 owner.type_paper(paper_prompt(number), more)
                 owner.reply(paper_prompt(number + 1), "")
         owner.finish(say("next.good"))
@@ -108,7 +112,8 @@ def check_replace_again():
         # What was written before is none of these papers, so the missing one is asked for.
         owner.answer(say("replace.choose.only"), "0.3")
         owner.wait(say("new.write"))
-        end_by_keys(owner)
+        owner.type("\x04")
+        owner.end(130, "ended.replaced")
 
 
 def check_too_few():

@@ -90,7 +90,7 @@ FAULTS = [
     ("what is typed ahead is dropped without a word", "screen", "or is_begun\n        if is_dropped:", "or is_begun\n        if False:", lambda see: pasted.check_dropped()),
     ("what isn't taken is told where nobody sees it", "screen", "        for told in self._unseen if title else []:\n            self.tell(*told)\n", "", lambda see: pasted.check_back()),
     ("a key stops a drill at once", "screen", 'if self.agree(say("work.sure")) and', "if True and", lambda see: ends.check_stopped_drill()),
-    ("an Enter too many asks whether to stop", "screen", "is_stop = chr(self._terminal.key()).lower() == STOP", "is_stop = chr(self._terminal.key()).lower() in (STOP, '\\n', '\\r')", lambda see: ends.check_stopped_drill()),
+    ("an Enter too many asks whether to stop", "screen", "is_stop = chr(self._terminal.key(False)).lower() == STOP", "is_stop = chr(self._terminal.key(False)).lower() in (STOP, '\\n', '\\r')", lambda see: ends.check_stopped_drill()),
     ("an Enter too many ends", "check", 'for it in ("ep" if likely == "good" else "etp")', 'for it in ["", *("ep" if likely == "good" else "etp")]', lambda see: refusals.check_passphrases()),
     ("a passphrase that no file gives is taken", "questions", "if len(typed) > most else", "if False else", lambda see: astray.check_letter()),
     ("a noted fingerprint isn't compared before a backup is made", "proof", "elif not gives(Tried((), made.fingerprint, None), typed):", "elif False:", lambda see: steps.check_new()),
@@ -133,6 +133,7 @@ FAULTS = [
     ("complete groups are asked for that there can't be", "replace", '"all" if plan.needed == len(plan.groups) else ""', '""', lambda see: astray.check_lost()),
     ("a passphrase that wasn't typed is called mistyped", "drill", 'if result == "other" and not has_passphrase:', "if False:", lambda see: astray.check_unsaid()),
     ("Ctrl-C ends at once though papers were typed", "collect", "    if not screen.is_held:\n", "    if False:\n", lambda see: astray.check_end()),
+    ("Ctrl-C ends at once though papers are here", "collect", "    if desk.typed and not screen.is_held:\n", "    if False:\n", lambda see: astray.check_left_out()),
     ("a paper at the question for more is lost", "collect", "if not typed or len(parts) > 1 or any(mark in words for _, mark in parts):", "if not typed:", lambda see: astray.check_too_few()),
     ("a line for an unreadable word is lost", "spelling", 'word = piece.lstrip("0123456789")', 'word = piece.lstrip("0123456789_")', lambda see: astray.check_line()),
     ("another size leaves a full screen as it was", "screen", "            self._terminal.tells_size = True\n", "", lambda see: astray.check_size()),
@@ -183,6 +184,12 @@ def plant(folder, module, old, new, check_it):
     compile(text, str(path), "exec")
     path.write_text(text)
     return lambda: look(copy, check_it)
+
+
+def check_places():
+    """Checks that each fault still has its place."""
+    for _, module, old, new, _ in FAULTS:
+        planted.changed((BINDING / "shamir" / "papers" / f"{module}.py").read_text(), old, new, f"{module}.py")
 
 
 def check():

@@ -17,6 +17,7 @@ import argparse
 import errno
 import math
 import os
+import signal
 import sys
 from dataclasses import dataclass
 from typing import Any, Iterator, List, NoReturn, Optional, TextIO, Tuple
@@ -206,6 +207,7 @@ class Parser(argparse.ArgumentParser):
 
 
 def main() -> None:
+    signal.signal(signal.SIGINT, signal.SIG_DFL)
     parser = Parser(prog="python3 -m shamir.cuts", description="Prints the options of N drills that together list what one drill would list.")
     parser.add_argument("parts", metavar="N", type=int, help="how many drills, 1 or more")
     parts = parser.parse_args().parts

@@ -14,6 +14,7 @@ read or written, and 130 after Ctrl-C. Standard error says why.
 import concurrent.futures
 import math
 import os
+import signal
 import sys
 import threading
 import time
@@ -177,7 +178,9 @@ def run(drill: Drill, whole: Quorums, begin: int, jobs: int, write: Callable[[by
         started = time.monotonic()
         found = drill.listed(whole.names(at - 1) if at else None, count)
         seconds = time.monotonic() - started
-        shortest[0] = min(shortest[0], seconds)
+        # A part of mismatches alone derives no key, so it doesn't show what that takes.
+        if found[0].count(b" digest mismatch ") < count:
+            shortest[0] = min(shortest[0], seconds)
         sizes[0] = max(1, min(PART_MAX, GROWTH * count, int(PART_SECONDS * count / max(seconds - shortest[0], 0.001))))
         return found
 
@@ -266,6 +269,7 @@ def main() -> None:
     except (OSError, devices.DeviceFailed) as error:
         status, why = 3, f"a file can't be read or written: {getattr(error, 'strerror', None) or getattr(error, 'reason', error)}"
     except KeyboardInterrupt:
+        signal.signal(signal.SIGINT, signal.SIG_IGN)
         if is_watched():
             # What was said stands alone in its row, and not behind the progress.
             clear_row()

@@ -368,7 +368,7 @@ class WorkedExamples(unittest.TestCase):
         """Another process looks for the secret, the passphrase and a mnemonic in the memory of one that cleared its bytearrays."""
         for call, left in [
             ("shamir.recover_into(room, lines, passphrase=passphrase)", False),
-            ("shamir.decrypt_into(room, shamir.encrypted_into(other, [lines[:138], lines[139:]]), passphrase=passphrase)", False),
+            ("view = memoryview(lines); shamir.decrypt_into(room, shamir.encrypted_into(other, [view[:138], view[139:]]), passphrase=passphrase)", False),
             (LEFT_PAPERS, False),
             ("rounds = shamir.decrypt_rounds(shamir.encrypted_into(other, lines), passphrase=passphrase); next(rounds); next(rounds); rounds.close()", False),
             ("kept = shamir.recover(lines, passphrase=passphrase)", True),

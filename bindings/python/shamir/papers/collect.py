@@ -19,12 +19,12 @@ from shamir.papers.texts import counted, one_or_many, say
 def collect(screen: Screen, desk: Desk, title: str, intro: str, task: str = "", typed: str = "") -> None:
     """Lets the owner type papers, beside those that are here already, until Enter alone is typed, and says of which backup the task is if
     papers of several are here. `task` has its own words for what is complete. `typed` is what the owner has typed of the next paper."""
+    if desk.typed and not screen.is_held:
+        screen.hold(say("end.typed"))
     screen.clear(title)
     screen.tell(intro)
     entry = Entry(screen, desk.word_count, leave=desk.leave_out, takes_several=True)
     if desk.papers:
-        if not screen.is_held:
-            screen.hold(say("end.typed"))
         screen.tell(f"{say('collect.found')}:")
         for here in desk.typed:
             screen.item(said_row(desk, here))

@@ -83,6 +83,5 @@ def _tries_again(screen: Screen, verdict: Verdict, made: Made) -> bool:
         tell_verdict(screen, verdict, "")
         screen.tell(say("make.unproved" if verdict.result == "stopped" else "make.failed"), "bad")
         if verdict.result != "stopped":
-            screen.pause(say("screen.next"))
-            return False
+            return screen.choose(say("screen.end"), {"e": False})
     return screen.choose(say("make.failed.again"), {"t": True, "e": False})

@@ -53,6 +53,8 @@ def ask_passphrase(screen: Screen, desk: Desk) -> str:
     the papers."""
     screen.tell(say("passphrase.why"))
     while True:
+        # The owner may come back from the next question.
+        desk.forget_passphrase()
         desk.set_passphrase(ask_right(screen, say("passphrase.ask"), True))
         try:
             noted = ask_noted(screen)

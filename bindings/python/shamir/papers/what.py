@@ -26,6 +26,8 @@ def tell_paper(screen: Screen, desk: Desk) -> None:
             screen.item(text)
         screen.gap()
         screen.tell(say("what.passphrase"))
+        # Nothing of the paper is kept while the next one is asked for.
+        del paper
         try:
             screen.choose(say("what.next"), {"e": None}, has_back=True)
             return

@@ -44,7 +44,7 @@ def ask_which(screen: Screen, desk: Desk, fault: str) -> Optional[Tuple[str, Pla
         screen.tell(say("replace.none"))
         return screen.choose(say("replace.choose.none"), {DRILL: None}, has_back=True)
     screen.tell(say("which.intro"))
-    screen.tell(say("which.another" if desk.written == "replaced" else "which.legend"), "strong")
+    screen.tell(say("which.another" if any(it.is_rewritten for it in desk.papers) else "which.legend"), "strong")
     for name, key in offered:
         screen.item(say(key, group=name.split(".")[0]), f"{name:>4}  ")
     screen.gap()
