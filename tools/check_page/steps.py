@@ -164,6 +164,11 @@ def check_chosen(page, see):
     page.retype(say("more.exponent"), "40", "spinbutton")
     page.lacks(say("more.time", time="|").split("|")[0], "a time is told for an iteration exponent that there isn't")
     page.retype(say("more.exponent"), "3", "spinbutton")
+    page.fill(say("more.dice"), "123")
+    go_back(page, say("make.wallet"))
+    page.push(say("continue"), to=say("make.secret"))
+    if page.evaluate("document.querySelector('details input').value") != "3":
+        raise Failed("on the way back, too few throws lose the iteration exponent")
     page.choose(say("secret.own"))
     go_back(page, say("make.wallet"))
     go_back(page, say("make.plan"))
