@@ -5,7 +5,8 @@
  *   cc -std=c89 -Iinclude examples/c/drill.c libshamir.a -o drill
  *   ./drill < FILE
  *
- * The exit status is 1 if the library refuses the mnemonics. It is 2 if the input is too long or can't be read.
+ * The exit status is 1 if the library refuses the mnemonics. It is 2 if the input is too long or can't be read, and 3 if the list
+ * can't be written.
  */
 #include <stdio.h>
 #include <string.h>
@@ -32,7 +33,9 @@ int main(void)
         if (answer.code != SHAMIR_DONE) {
             return 1;
         }
-        fwrite(text, 1, last, stdout);
+        if (fwrite(text, 1, last, stdout) != last || fflush(stdout) != 0) {
+            return 3;
+        }
         if (strncmp(text + last, more, strlen(more)) != 0) {
             return 0;
         }
