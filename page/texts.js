@@ -301,7 +301,7 @@ export const TEXTS = {
   "proof.again": "Try again",
   "wallet.legend": "Which wallet will read these papers?",
   "wallet.flag": "One that knows extendable backups",
-  "wallet.flag.hint": "The papers get the extendable flag. A wallet that doesn't know the flag calls each of them wrong. Your wallet's manual says whether it knows the flag. No wallet that knows it was tried here, only shamir itself.",
+  "wallet.flag.hint": "The papers get the extendable flag. A wallet that doesn't know the flag calls each of them wrong. Your wallet's manual says whether it knows the flag. Of readers that know it, only shamir itself was tried here, and no wallet.",
   "wallet.older": "An older one",
   "wallet.older.hint": "The papers get no flag, so the wallet needn't know it. Electrum's reader (4.3.4) was tried: it doesn't know the flag, and reads papers of 20 and of 33 words without it.",
   "wallet.unknown": "I don't know",

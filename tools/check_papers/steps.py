@@ -4,7 +4,6 @@ from refusals import NUMBERED, back_prompt, word_prompt
 from tasks import SIGN, end_by_keys, in_turn, paper_prompt, started
 
 import plain
-import shamir
 from samples import FINGERPRINT, PASSPHRASE, SECRET, SOUND_PAPER, THREE_GROUPS, papers_of, with_words
 
 MENU = say("home.choose")
@@ -24,7 +23,7 @@ def check_new():
         owner.expect(say("refused.31"))
         owner.answer(say("new.wallet"), "")
         owner.answer(say("new.wallet"), "2")
-        owner.expect(say("wallet.flag.hint", version=shamir.__version__))
+        owner.expect(say("wallet.flag.hint"))
         owner.answer(say("new.words"), "3")
         owner.answer(say("new.words"), "b")
         owner.answer(say("new.wallet"), "2")

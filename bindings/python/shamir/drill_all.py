@@ -28,7 +28,8 @@ from shamir.cuts import Parser, Quorums, quorums, tell
 
 # A thread gets twice the stack that the library needs at most.
 STACK_BYTES = 1 << 20
-# A part takes about so many seconds besides the key derivation, so that an interruption loses little.
+# Besides the key derivation, a part takes about so many seconds, so that an interruption loses little, or as long as that, as its time
+# varies.
 PART_SECONDS = 1.0
 PART_MAX = 4096
 # A part has at most so many times as many quorums as one before it.
@@ -181,7 +182,8 @@ def run(drill: Drill, whole: Quorums, begin: int, jobs: int, write: Callable[[by
         # A part of mismatches alone derives no key, so it doesn't show what that takes.
         if found[0].count(b" digest mismatch ") < count:
             shortest[0] = min(shortest[0], seconds)
-        sizes[0] = max(1, min(PART_MAX, GROWTH * count, int(PART_SECONDS * count / max(seconds - shortest[0], 0.001))))
+        aim = PART_SECONDS if math.isinf(shortest[0]) else max(PART_SECONDS, shortest[0])
+        sizes[0] = max(1, min(PART_MAX, GROWTH * count, int(aim * count / max(seconds - shortest[0], 0.001))))
         return found
 
     threading.stack_size(STACK_BYTES)

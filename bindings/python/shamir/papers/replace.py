@@ -98,4 +98,5 @@ def _drill(screen: Screen, desk: Desk) -> Optional[str]:
     """Drills with all papers that were typed, if they are enough. Returns what the owner has typed of the next paper, or None to end."""
     if desk.status().enough:
         return "" if drill_with_passphrase(screen, desk, say("replace.drill")) == "p" else None
-    return ask_for_more(screen, desk, say("replace.done" if desk.written else "replace.few"), say("replace.too_few"))
+    is_written = any(it.is_rewritten for it in desk.papers)
+    return ask_for_more(screen, desk, say("replace.done" if is_written else "replace.few"), say("replace.too_few"))

@@ -216,7 +216,7 @@ OWN: Dict[str, str] = {
     "change.failed.then": "If the result stays the same, keep the old papers, and destroy the new ones.",
     "end.changing": "If you end now, the program forgets the new papers. Those that you have written so far are no finished backup: destroy them, and keep the old ones.",
     "ended.changing": "shamir-papers: ended. The new papers that you have written so far are no finished backup: destroy them, and keep the old ones.",
-    "ended.changed": "shamir-papers: ended. The new papers are written. Keep the old ones until a wallet that you restored from the new ones has shown your addresses.",
+    "ended.changed": "shamir-papers: ended. Keep the new papers, and the old ones until a wallet that you restored from the new ones has shown your addresses.",
     "closed.changing": "shamir-papers: ended. No whole drill has shown that old and new papers agree, so keep the old ones. Close this terminal now: it may remember what it showed.",
     "replace.choose": "The missing paper, such as 0.2 (d: try the papers together; b: back):",
     "replace.choose.only": "The missing paper, such as 0.2 or 2 (d: try the papers together; b: back):",
