@@ -128,6 +128,7 @@ FAULTS = [
     ("a paper that is read in full stays damaged", "desk", "is_repaired=here.is_repaired and paper.is_repaired", "is_repaired=here.is_repaired", lambda see: repaired.check_read_later()),
     ("a passphrase is cut", "line", "            self.is_cut = True\n", "            pass\n", lambda see: astray.check_letter()),
     ("a drill without the repaired paper counts for it", "check", "is_there and all(paper.name in verdict.names for paper in repaired)", "is_there", lambda see: repaired.check_untried()),
+    ("a drill without the paper that was written anew counts for it", "check", "is_rewritten and paper.name in verdict.names for", "is_rewritten for", lambda see: repaired.check_whole()),
     ("a drill without a paper that was taken out counts for it", "check", 'is_there = desk.written != "repaired" or', "is_there = True or", lambda see: repaired.check_taken_out()),
     ("a program in the background loses its papers", "terminal", "if error.args[0] != errno.EINTR:", "if True:", scrollback.check),
     ("complete groups are asked for that there can't be", "replace", '"all" if plan.needed == len(plan.groups) else ""', '""', lambda see: astray.check_lost()),

@@ -135,6 +135,17 @@ def check_untried():
         owner.expect(say("damaged.keep"))
         owner.lacks("is right: the drill gave your secret with it")
         owner.finish(say("next.good"), "closed.repaired")
+    with started("check") as owner:
+        owner.type_paper(paper_prompt(1), papers[0])
+        for number, name, paper in [(2, "0.1", papers[1]), (3, "1.0", papers[3])]:
+            owner.answer(paper_prompt(number), with_words(paper, {6: "?"}))
+            owner.answer(sure(name), "y")
+        owner.answer(paper_prompt(4), "")
+        # Of the two repaired papers, only 0.1 is tried.
+        owner.passphrase("", fingerprint_of(papers[:2], ""))
+        owner.wait(say("next.good"))
+        owner.expect(say("damaged.keep"))
+        owner.finish(say("next.good"))
 
 
 def check_taken_out():
@@ -171,6 +182,17 @@ def check_whole():
         owner.expect(say("replace.right.one", names="0.0"))
         owner.lacks(say("damaged.keep"))
         owner.finish(say("next.good"), "closed")
+    with started("repair") as owner:
+        owner.answer(say("damaged.ask"), THREE_GROUPS[0])
+        owner.answer(say("damaged.menu"), "w")
+        owner.answer(say("new.write"), "")
+        owner.type_paper(say("back.ask", name="0.0"), THREE_GROUPS[0])
+        # No quorum of these has it.
+        owner.collect(THREE_GROUPS[3:], 2)
+        owner.passphrase(PASSPHRASE, FINGERPRINT)
+        owner.wait(say("next.good"))
+        owner.expect(say("damaged.keep"))
+        owner.finish(say("next.good"), "closed.repaired")
 
 
 CHECKS = [
