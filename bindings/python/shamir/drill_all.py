@@ -28,8 +28,8 @@ from shamir.cuts import Parser, Quorums, quorums, tell
 
 # A thread gets twice the stack that the library needs at most.
 STACK_BYTES = 1 << 20
-# Besides the key derivation, a part takes about so many seconds, so that an interruption loses little, or as long as that, as its time
-# varies.
+# Besides the key derivation, a part takes about so many seconds, so that an interruption loses little. If the derivation takes longer,
+# a part may take as long again, since the times of derivations vary.
 PART_SECONDS = 1.0
 PART_MAX = 4096
 # A part has at most so many times as many quorums as one before it.
