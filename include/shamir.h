@@ -416,9 +416,9 @@ shamir_answer shamir_decrypt(
  * Undoes one of the four rounds of the cipher, so that a program can show how far a decryption is, and stop it.
  *
  * *parameters and passphrase are as for shamir_decrypt. Call it with the rounds 3, 2, 1 and 0, in this order: first with the encrypted
- * secret, and then with what the call before gave, which must be in another buffer than undone. The first call has the answer of
- * shamir_decrypt without an expected fingerprint, and no later one is refused if there is room. The last text is the secret that
- * shamir_decrypt gives. Each call takes a quarter of its iterations.
+ * secret, and then with what the call before gave, which must be in another buffer than undone. The first call refuses what
+ * shamir_decrypt without an expected fingerprint refuses, by the same code, and no later one is refused if there is room. The last text
+ * is the secret that shamir_decrypt gives. Each call takes a quarter of its iterations.
  *
  * The text with this round undone goes to the start of undone. written is its length, which is encrypted_bytes. Clear each text:
  * passphrases can be tried on it with fewer iterations than on the encrypted secret, and after round 1 it ends with the second half of

@@ -96,7 +96,8 @@ struct Refusal : shamir_answer {
     std::string text() const
     {
         char room[SHAMIR_TEXT_BYTES_MAX];
-        return std::string(room, static_cast<std::size_t>(shamir_text(this, room, sizeof room).written));
+        const shamir_answer told = shamir_text(this, room, sizeof room);
+        return told.code == SHAMIR_DONE ? std::string(room, static_cast<std::size_t>(told.written)) : "no memory for the text";
     }
 
     /* The line if there is one, the code and the text, as the command shamir prints them: "line 2: 13 bad checksum". */
@@ -460,6 +461,9 @@ template <class Draw, class = detail::IfDraws<Draw>>
 Answer<Mnemonics> create(Text plan, Bytes secret, const CreateOptions &options, Draw &&draw)
 {
     const auto needed = random_needed(plan, secret.size());
+    if (!needed && needed.error().code == SHAMIR_E_NO_MEMORY) {
+        return needed.error();
+    }
     return create(plan, secret, options, Bytes(needed ? detail::drawn(*needed, draw) : Secret()));
 }
 

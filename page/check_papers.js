@@ -113,8 +113,10 @@ export async function drillWithPassphrase(desk, status, kinds, { title, passphra
 function tellVerdict(verdict, noted, { status, kinds, left }) {
   const { result, fingerprint, hasPassphrase, table } = verdict;
   const [isGood, isNoted] = [result === "good", noted !== ""];
-  const [repaired, written] = [kinds.filter((it) => it.isRepaired), kinds.filter((it) => it.isWritten)].map((them) => them.map(({ name }) => name));
-  const found = resultOf(verdict, isNoted, { here: status.groups.flatMap(({ names }) => names), repaired, written, isLeft: left !== null });
+  const namesOf = (/** @type {(kind: Kind) => boolean} */ isMeant) => kinds.filter(isMeant).map(({ name }) => name);
+  const [repaired, written] = [namesOf((it) => it.isRepaired), namesOf((it) => it.isWritten)];
+  const lone = namesOf((it) => it.isWritten && it.memberThreshold === 1);
+  const found = resultOf(verdict, isNoted, { here: status.groups.flatMap(({ names }) => names), repaired, written, lone, isLeft: left !== null });
   const [tried, anew] = [found.tried, found.anew].map((them) => them.map(({ key, names, kind }) => paragraph(say(key, { names: names.join(", ") }), kind)));
   const again = ["other", "none"].includes(result) ? `${say(hasPassphrase ? "check.again" : "check.again.none")} ` : "";
   const told = [

@@ -161,12 +161,13 @@ class Collection {
   }
 
   /**
-   * Says that a paper is the first one of another backup. If words of one were found, most likely they are wrong.
+   * Says that a paper is the first one of another backup. If words of each paper of a backup were found, most likely some are wrong.
    *
    * @param {Kind} kind
    */
   #saidOther({ name, begin }) {
-    const repaired = this.#repaired;
+    const doubtful = this.#backups.filter(({ kinds }) => kinds.every((it) => it.isRepaired));
+    const repaired = doubtful.flatMap(({ kinds }) => kinds.map((it) => it.name));
     return `${say("collect.taken.apart", { name, begin })} ${repaired.length ? saidRepaired(repaired) : ""}`.trim();
   }
 

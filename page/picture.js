@@ -64,7 +64,9 @@ export function picture(status, groupCount, task = "") {
 export function saidWhole({ complete, required, enough, groups }, groupCount, task = "") {
   const [{ threshold, names }] = groups;
   const about = task === "replace" && groupCount === 1 && threshold > 1 ? "replace" : "status";
-  if (enough) return say(task === "check" ? "status.enough.check" : `${about}.enough`);
+  // A backup of one paper has no others to be typed.
+  const hasOthers = groupCount > 1 || threshold > 1;
+  if (enough) return say(task === "check" && hasOthers ? "status.enough.check" : `${about}.enough`);
   if (groupCount > 1) return say("status.not_enough", { needed: counted(required, "whole"), here: complete });
   return say(`${about}.not_enough`, { needed: counted(threshold, "paper"), here: names.length });
 }

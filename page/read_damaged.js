@@ -137,7 +137,8 @@ class Damaged {
     const heading = element("h2", { tabindex: "-1" }, say("damaged.found"));
     this.#found.replaceChildren(
       heading,
-      ...impossible.map((kind) => paragraph(saidImpossible(kind), "bad")),
+      // If another paper fits, the words that were typed can be right.
+      ...(possible.length ? [] : impossible.map((kind) => paragraph(saidImpossible(kind), "bad"))),
       ...(isOneOfTwo ? [paragraph(say("damaged.two.why")), paragraph(say("damaged.two.which"), "note")] : []),
       ...fits.map(({ box }) => box),
       ...(open && fits.length ? [paragraph(say("damaged.compare"), "note")] : []),

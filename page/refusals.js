@@ -13,7 +13,8 @@ import { counted, formOf, hasText, say } from "./say.js";
 const LOCATED = [Code.UNKNOWN_WORD, Code.WRONG_WORD];
 
 /**
- * Says what a paper that isn't determined takes: papers of its group, or complete groups besides it and one paper fewer.
+ * Says what a paper that isn't determined takes: papers of its group, or complete groups besides it and one paper fewer. A group's only
+ * paper takes complete groups alone.
  *
  * @param {number[]} details
  * @param {string} task "only" if the backup has one group, and "all" if each of several is needed, so that only papers of its group
@@ -23,7 +24,8 @@ function saidUndetermined([first, second], task) {
   const [members, threshold, groups, required] = [24, 16, 8, 0].map((bits) => Math.floor(second / 2 ** bits) % 256);
   const [group, missing] = [Math.floor(first / 256), threshold - members];
   const lost = threshold === 1 ? "all.refused.66.lost" : "all.refused.66";
-  const key = task === "only" ? "only.refused.66" : task === "all" ? lost : missing > 1 ? "refused.66.fewer" : "refused.66";
+  const other = threshold === 1 ? "refused.66.only" : missing > 1 ? "refused.66.fewer" : "refused.66";
+  const key = task === "only" ? "only.refused.66" : task === "all" ? lost : other;
   return say(key, { group, more: counted(missing, "paper"), fewer: counted(missing - 1, "paper"), whole: counted(required, "whole"), groups: Math.min(groups, required) });
 }
 

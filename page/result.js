@@ -6,9 +6,9 @@ import { formOf } from "./say.js";
 /** @typedef {{key: string, names: string[], kind: "note" | "good" | "bad" | ""}} Told the key of a sentence, the papers that it names, and how it looks */
 /**
  * The papers: the names of all that are here, of those of which words were found and not read, and of those that were written again from
- * others; and whether any paper was left out.
+ * others; of the last ones those whose group needs one paper, as nothing but the owner's answer says; and whether any paper was left out.
  *
- * @typedef {{here: string[], repaired: string[], written: string[], isLeft: boolean}} Papers
+ * @typedef {{here: string[], repaired: string[], written: string[], lone: string[], isLeft: boolean}} Papers
  */
 
 /** @type {Record<Verdict["result"], Next>} */
@@ -44,16 +44,18 @@ function form(key, names, kind) {
  * @param {boolean} isNoted whether a fingerprint was noted
  * @param {Papers} papers
  */
-export function resultOf(verdict, isNoted, { here, repaired, written, isLeft }) {
+export function resultOf(verdict, isNoted, { here, repaired, written, lone, isLeft }) {
   const { result, names } = verdict;
   const isTried = (/** @type {string} */ name) => names.includes(name);
   const others = names.length > 0 && result !== "stopped" ? here.filter((name) => !isTried(name)) : [];
   const again = result === "good" ? written.filter(isTried) : [];
+  const [right, answered] = [again.filter((name) => !lone.includes(name)), again.filter((name) => lone.includes(name))];
+  const anew = isNoted ? [...form("replace.right", right, "good"), ...form("replace.lone", answered, "note")] : form("replace.tried", again, "note");
   return {
-    title: `check.done.${titleOf(verdict, isNoted, isLeft || others.length > 0, again.length > 0)}`,
+    title: `check.done.${titleOf(verdict, isNoted, isLeft || others.length > 0, right.length > 0)}`,
     next: NEXT[result],
     tried: [...naming("verdict.papers", here.filter(isTried), ""), ...naming("verdict.papers.none", others, "")],
-    anew: [...ofRepaired(verdict, isNoted, repaired), ...form(isNoted ? "replace.right" : "replace.tried", again, isNoted ? "good" : "note")],
+    anew: [...ofRepaired(verdict, isNoted, repaired), ...anew],
   };
 }
 
@@ -63,7 +65,7 @@ export function resultOf(verdict, isNoted, { here, repaired, written, isLeft }) 
  * @param {Pick<Verdict, "result" | "hasPassphrase">} verdict
  * @param {boolean} isNoted
  * @param {boolean} isUntried whether not all papers were tried
- * @param {boolean} isWritten whether papers that were tried were written again
+ * @param {boolean} isWritten whether papers that were tried were written again, and are right
  */
 function titleOf({ result, hasPassphrase }, isNoted, isUntried, isWritten) {
   if (result !== "good") return result === "other" && !hasPassphrase ? "other.none" : result;

@@ -70,8 +70,8 @@ const DECISIONS = {
     const same = ["result", "right", "names", "fingerprint"].map((key) => [found[key], right[key]]);
     return [...same, [found.part !== "", right.part], [found.sentences, right.said.map(one)]];
   },
-  results: ({ result, noted, passphrase, here, tried, right, repaired, written, left, title, next, said }) => {
-    const found = resultOf({ result, names: tried, right, hasPassphrase: passphrase }, noted, { here, repaired, written, isLeft: left });
+  results: ({ result, noted, passphrase, here, tried, right, repaired, written, lone = [], left, title, next, said }) => {
+    const found = resultOf({ result, names: tried, right, hasPassphrase: passphrase }, noted, { here, repaired, written, lone, isLeft: left });
     const told = [...found.tried, ...found.anew].map(({ key, names }) => say(key, { names: names.join(", ") }));
     return [[found.title, title], [found.next, next], [told.sort(), said.map(one).sort()]];
   },

@@ -198,7 +198,7 @@ def check_mixed(page, see):
     page.push(say("collect.more"))
     take_all(page, THREE_GROUPS[1:3])
     one, two, whole = counted(1, "paper"), counted(2, "paper"), counted(2, "whole")
-    for group, needed, text in [(1, "1", said(66, group=1, more=one, whole=whole, groups=1)), (2, "2", said("66.fewer", group=2, more=two, fewer=one, whole=whole, groups=1))]:
+    for group, needed, text in [(1, "1", said("66.only", group=1, whole=whole, groups=1)), (2, "2", said("66.fewer", group=2, more=two, fewer=one, whole=whole, groups=1))]:
         page.choose(say("which.paper", name=f"{group}.0"))
         page.fill(say("which.needed"), needed, "spinbutton")
         page.push(say("which.write"))

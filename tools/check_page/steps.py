@@ -1,7 +1,7 @@
 """The ways back, what Enter does in a field that isn't a word's, and the questions for the plan of papers."""
 from browsers import Failed
 from samples import FINGERPRINT, PASSPHRASE, SOUND_PAPER, THREE_GROUPS, TWO, name_of
-from tasks import begin, begin_replace, choose_wallet, clear, create, paste, read_paper, take, take_all
+from tasks import begin, begin_replace, choose_wallet, clear, create, drill, end, paste, read_paper, take, take_all, type_paper
 from texts import counted, say
 
 import plain
@@ -119,7 +119,16 @@ def check_which(page, see):
     page.wait_title(say("paper.title", name="2.0"))
     if read_paper(page) != THREE_GROUPS[4]:
         raise Failed("the paper that is written isn't the missing one")
-    clear(page, is_asked=True)
+    page.push(say("paper.written"))
+    type_paper(page, THREE_GROUPS[4])
+    page.wait_title(say("replace.which"))
+    page.push(say("replace.end"))
+    drill(page, PASSPHRASE, FINGERPRINT)
+    # Only the answer above says that its group needs one paper.
+    page.wait_title(say("check.done.good"))
+    page.wait_text(say("replace.lone.one", names="2.0"))
+    see("a paper that is written again, and that rests on an answer")
+    end(page)
 
 
 def check_one_group(page, _):

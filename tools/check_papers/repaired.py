@@ -87,6 +87,13 @@ def check_impossible():
         owner.answer(say("damaged.menu.none"), "c")
         owner.answer(NUMBERED, SOUND_PAPER)
         owner.finish(say("damaged.menu"))
+    # Two papers fit, of which no backup has one. So no typed word need be wrong.
+    with started("repair") as owner:
+        owner.answer(say("damaged.ask"), with_words(SOUND_PAPER, {2: "?", 3: "?", 6: "?"}))
+        owner.wait(say("damaged.menu"))
+        owner.expect(say("damaged.one", name="0.0"))
+        owner.lacks("So a word that you typed is wrong")
+        owner.finish(say("damaged.menu"))
     with started("check") as owner:
         owner.answer(paper_prompt(1), marks)
         owner.wait(NUMBERED)
@@ -195,8 +202,39 @@ def check_whole():
         owner.finish(say("next.good"), "closed.repaired")
 
 
+def check_few():
+    """Of too few papers, nothing says that the words are right which were found."""
+    with started("check") as owner:
+        owner.answer(paper_prompt(1), with_words(THREE_GROUPS[0], {6: "?", 9: "?", 12: "?"}))
+        owner.answer(sure("0.0"), "y")
+        owner.answer(paper_prompt(2), "")
+        owner.wait(say("more.papers"))
+        owner.expect(say("damaged.too_few"))
+        owner.lacks("the checksum finds no wrong word")
+        owner.finish(say("more.papers"))
+
+
+def check_lone():
+    """A paper written again whose group needs one paper, as only the owner says: a drill doesn't show that this is so."""
+    with started("replace") as owner:
+        owner.reply(say("replace.how"), "1")
+        owner.collect(THREE_GROUPS[:4])
+        owner.reply(say("replace.choose"), "2.0")
+        owner.reply(say("which.ask.needed", group=2), "1")
+        owner.reply(owner.question("new.write"), "")
+        owner.type_paper(say("back.ask", name="2.0"), THREE_GROUPS[4])
+        owner.reply(say("replace.choose"), "d")
+        owner.passphrase(PASSPHRASE, FINGERPRINT)
+        owner.wait(say("next.good"))
+        owner.expect(say("replace.lone.one", names="2.0"))
+        owner.lacks(say("check.done.written"))
+        owner.finish(say("next.good"))
+
+
 CHECKS = [
     check_whole,
+    check_few,
+    check_lone,
     check_refused_repaired,
     check_read_later,
     check_miswritten,

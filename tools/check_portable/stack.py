@@ -15,6 +15,9 @@ TARGETS = [
     builds.Target("the stack with gcc -O2", "gcc", ["-O2"]),
     builds.Target("the stack with gcc -Os", "gcc", ["-Os"]),
     builds.Target("the stack with clang -O2", "clang", ["-O2"]),
+    builds.Target("the stack with gcc -O3", "gcc", ["-O3", "-DNDEBUG"]),
+    builds.Target("the stack with clang -O3", "clang", ["-O3", "-DNDEBUG"]),
+    builds.Target("the stack with gcc -O0", "gcc", ["-O0"]),
 ]
 DEEP = [
     builds.Target("the largest calls with gcc -O2", "gcc", ["-O2"]),

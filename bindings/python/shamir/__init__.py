@@ -513,8 +513,9 @@ def _code(number: int) -> Union[Code, int]:
 def _checked(answer: _Answer) -> _Answer:
     if answer.code:
         room = ctypes.create_string_buffer(TEXT_BYTES_MAX)
-        written = _library.shamir_text(ctypes.byref(answer), room, TEXT_BYTES_MAX).written
-        raise Refusal(_code(answer.code), answer.line or None, (answer.first, answer.second), room.raw[:written].decode())
+        told = _library.shamir_text(ctypes.byref(answer), room, TEXT_BYTES_MAX)
+        text = "no memory for the text" if told.code else room.raw[: told.written].decode()
+        raise Refusal(_code(answer.code), answer.line or None, (answer.first, answer.second), text)
     return answer
 
 
@@ -683,6 +684,8 @@ def create(
 def _random_for(plan: bytes, secret_bytes: int) -> bytes:
     """Return as many random bytes as a backup takes, or none if the library refuses the plan or the length."""
     needed = _library.shamir_random_needed(*_slice(plan), secret_bytes)
+    if needed.code == Code.NO_MEMORY:
+        _checked(needed)
     return b"" if needed.code else os.urandom(needed.first)
 
 
@@ -873,12 +876,13 @@ def drill(
     ValueError.
 
     A digest mismatch is no refusal here. The generator looks at its arguments only at the first `next`, which then
-    raises any refusal.
+    raises any refusal. Only 4 (no memory, as plain C) can come later.
 
     Raises `Refusal` with one of the codes 3, 11 to 30, 41, 44, 61, 62 or 71.
     """
     data, key = _joined(lines), _bytes(passphrase)
     form = _form(fingerprints, expect)
+    expect = None if expect is None else _bytes(expect)
     listing = _listed(data, key, after, LIMIT_MAX, form, expect, max_exponent)
     while True:
         yield from (_outcome(line, form) for line in listing.outcomes.splitlines())
@@ -1164,6 +1168,8 @@ def _split_anew(call: Callable[..., _Answer], given: Tuple[Any, ...], random: by
 def _drawn_split(call: Callable[..., _Answer], given: Tuple[Any, ...]) -> List[str]:
     """Split an encrypted secret with drawn bytes. The library says how many it takes if it gets none, unless it refuses something else."""
     needed = call(*given, None, 0, None, 0)
+    if needed.code == Code.NO_MEMORY:
+        _checked(needed)
     count = needed.first if needed.code == Code.RANDOM_LENGTH else 0
     for _ in range(DRAWS - 1):
         try:

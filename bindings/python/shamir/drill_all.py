@@ -4,12 +4,12 @@
 options lists for all quorums, in the same order. If it is interrupted, the same command goes on where FILE ends. Without
 `--into`, the lines go to standard output.
 
-If a person watches standard error, it says how many quorums were tried, and estimates how long the rest takes. Each core runs a
-thread, so the mnemonics and the passphrase are in this process alone.
+If a person watches standard error, and the lines don't go to a terminal, it says how many quorums were tried, and estimates how long
+the rest takes. Each core runs a thread, so the mnemonics and the passphrase are in this process alone.
 
 The exit status is 0 if all is as expected. It is 1 if a quorum has a digest mismatch or another secret, or if something is
 refused, 2 if the words of the command are wrong or FILE isn't the beginning of this drill, 3 if the input, a value or FILE can't be
-read or written, and 130 after Ctrl-C. Standard error says why.
+read or written, 4 if there are too few threads or there is too little memory, and 130 after Ctrl-C. Standard error says why.
 """
 import concurrent.futures
 import math
@@ -36,6 +36,7 @@ PART_MAX = 4096
 GROWTH = 4
 END = b"end\n"
 OTHER = "the file isn't the beginning of this drill"
+FEW = "there are too few threads, or there is too little memory: give a smaller --jobs"
 
 
 class Failed(Exception):
@@ -140,9 +141,9 @@ def clear_row() -> None:
 class Progress:
     """What standard error says to a person while the drill runs."""
 
-    def __init__(self, done: int, total: int):
+    def __init__(self, done: int, total: int, is_shown: bool):
         self.first, self.total, self.begun, self.told = done, total, time.monotonic(), 0.0
-        self.is_shown = is_watched()
+        self.is_shown = is_shown
 
     def tell(self, done: int) -> None:
         now = time.monotonic()
@@ -158,7 +159,13 @@ class Progress:
 
 
 def said_time(seconds: float) -> str:
-    return f"{seconds:.0f} seconds" if seconds < 90 else f"{seconds / 60:.0f} minutes" if seconds < 5400 else f"{seconds / 3600:.1f} hours"
+    if seconds >= 5400:
+        return f"{seconds / 3600:.1f} hours"
+    return counted(seconds, "second") if seconds < 90 else counted(seconds / 60, "minute")
+
+
+def counted(number: float, unit: str) -> str:
+    return f"{number:.0f} {unit}{'' if round(number) == 1 else 's'}"
 
 
 def parts(begin: int, total: int, size: Callable[[], int]) -> Iterator[Tuple[int, int]]:
@@ -168,12 +175,13 @@ def parts(begin: int, total: int, size: Callable[[], int]) -> Iterator[Tuple[int
         begin += count
 
 
-def run(drill: Drill, whole: Quorums, begin: int, jobs: int, write: Callable[[bytes], None]) -> bool:
-    """Write the lines of the quorums from a position on, in order. Return whether all is well with them."""
+def run(drill: Drill, whole: Quorums, begin: int, jobs: int, write: Callable[[bytes], None], is_shown: bool) -> bool:
+    """Write the lines of the quorums from a position on, in order. `is_shown` says whether a person sees how far it is. Return whether all
+    is well with them."""
     total, sizes, wrongs = whole.count(), [1], 0
     # The shortest part shows what a part takes however small it is, such as the key derivation.
     shortest = [math.inf]
-    progress = Progress(begin, total)
+    progress = Progress(begin, total, is_shown)
 
     def part(at: int, count: int) -> Tuple[bytes, int]:
         started = time.monotonic()
@@ -218,12 +226,12 @@ def drilled(drill: Drill, jobs: int, path: Optional[str]) -> bool:
             raise
     whole = quorums(drill.text)
     if path is None:
-        return run(drill, whole, 0, jobs, devices.write)
+        return run(drill, whole, 0, jobs, devices.write, is_watched() and not os.isatty(1))
     begin, is_well, is_ended = earlier(path, drill, whole)
     if is_ended:
         return is_well
     with open(path, "ab", buffering=0) as file:
-        return run(drill, whole, begin, jobs, lambda data: write_to(file, data)) and is_well
+        return run(drill, whole, begin, jobs, lambda data: write_to(file, data), is_watched()) and is_well
 
 
 def write_to(file: BinaryIO, data: bytes) -> None:
@@ -263,20 +271,23 @@ def main() -> None:
         drill = Drill(data.rest(), passphrase, args.expect)
         status, why = (0 if drilled(drill, args.jobs, args.into) else 1), ""
     except shamir.Refusal as refused:
-        status, why = 1, str(refused)
+        status, why = (4, FEW) if refused.code == shamir.Code.NO_MEMORY else (1, str(refused))
     except Failed as failed:
         status, why = failed.status, failed.why
     except devices.ValueFailed as value:
         status, why = value.status, f"{value.name}: {value.reason}"
     except (OSError, devices.DeviceFailed) as error:
         status, why = 3, f"a file can't be read or written: {getattr(error, 'strerror', None) or getattr(error, 'reason', error)}"
+    except (RuntimeError, MemoryError):
+        # A thread can't be started, or has no memory.
+        status, why = 4, FEW
     except KeyboardInterrupt:
         signal.signal(signal.SIGINT, signal.SIG_IGN)
-        if is_watched():
-            # What was said stands alone in its row, and not behind the progress.
-            clear_row()
         status, why = 130, "interrupted" + ("; the same command goes on" if args.into else "")
     if why:
+        if is_watched():
+            # What is said stands alone in its row, and not behind the progress.
+            clear_row()
         tell(f"shamir.drill_all: {why}\n")
     # Threads may still wait for the library.
     os._exit(status)

@@ -23,7 +23,7 @@ CASES = json.loads(TABLE.read_text("utf-8"))
 # A terminal has no table of quorums, so it names the wrong ones, and one for each secret.
 OF_A_TERMINAL = ("verdict.wrong.", "verdict.gave")
 # What a result says of the papers.
-OF_PAPERS = ("verdict.papers", "damaged.suspect.", "damaged.right.", "damaged.keep", "replace.right.", "replace.tried.")
+OF_PAPERS = ("verdict.papers", "damaged.suspect.", "damaged.right.", "damaged.keep", "replace.right.", "replace.lone.", "replace.tried.")
 # The answer that stands first at the question after a result.
 LIKELY = {"e": "end", "t": "again", "p": "papers"}
 
@@ -118,7 +118,9 @@ class DecisionTests(unittest.TestCase):
 
     def results(self, case):
         anew = case["repaired"] + case["written"]
-        papers = [paper_of(name, is_repaired=name in case["repaired"], is_rewritten=name in anew) for name in case["here"]]
+        lone = case.get("lone", [])
+        how = [{"is_repaired": it in case["repaired"], "is_rewritten": it in anew, "member_threshold": 1 if it in lone else 2} for it in case["here"]]
+        papers = [paper_of(name, **it) for name, it in zip(case["here"], how)]
         groups = sorted({paper.group for paper in papers})
         status = shamir.Status(0, 1, tuple(shamir.GroupStatus(it, 1, tuple(one.name for one in papers if one.group == it)) for it in groups))
         written = "repaired" if case["repaired"] else "replaced" if case["written"] else ""

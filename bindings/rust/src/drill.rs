@@ -154,9 +154,9 @@ impl AsRef<[u8]> for Names {
 /// Quorums come in ascending order: they are compared by their first names, then by their second names, and so on. A digest
 /// mismatch is an outcome, and no error. After an error the drill ends.
 ///
-/// The first call of `next` gives any error. It is the first of these that applies: [`Error::BadCursor`],
-/// [`Error::BadFingerprint`], [`Error::Passphrase`], that of the first refused line, [`Error::NoShares`], [`Error::Incomplete`],
-/// [`Error::HighExponent`], [`Error::NotAQuorum`].
+/// The first call of `next` gives any error, except that each part can give [`Error::NoMemory`]. It is the first of these that
+/// applies: [`Error::BadCursor`], [`Error::BadFingerprint`], [`Error::Passphrase`], that of the first refused line,
+/// [`Error::NoShares`], [`Error::Incomplete`], [`Error::HighExponent`], [`Error::NotAQuorum`].
 ///
 /// The library computes the outcomes in parts. Each part has as many as fit into 64 KiB of text. This text is cleared when the
 /// next part comes, and when the drill is dropped.

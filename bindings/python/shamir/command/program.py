@@ -92,6 +92,8 @@ def status_of(call: Call, data: Input) -> int:
         say("shamir: master secret isn't hexadecimal\n")
         return NOT_BEGUN
     except shamir.Refusal as refusal:
+        if refusal.code == shamir.Code.NO_MEMORY:
+            raise MemoryError from None
         say(f"shamir: {refusal}\n")
         if refusal.code == shamir.Code.BAD_PLAN and is_attended():
             say(PLAN_FORM)

@@ -2,6 +2,7 @@
 from __future__ import annotations
 
 import argparse
+import contextlib
 import os
 import signal
 import sys
@@ -67,8 +68,9 @@ def need_terminal(task: Optional[str]) -> None:
     for stream, descriptor in [("input", 0), ("output", 1)]:
         if not os.isatty(descriptor):
             command = COMMANDS[task] if task else "shamir"
-            print(say("needs.terminal", stream=stream, command=command), file=sys.stderr)
-            sys.exit(2)
+            with contextlib.suppress(OSError):
+                print(say("needs.terminal", stream=stream, command=command), file=sys.stderr, flush=True)
+            os._exit(2)
 
 
 def prepare(screen: Screen, kind: str, forbidden: List[str]) -> None:

@@ -29,7 +29,9 @@ def collect_and_check(screen: Screen, desk: Desk, title: str, intro: str, drill:
         if desk.status().enough:
             typed = "" if drill_with_passphrase(screen, desk, drill) == "p" else None
         else:
-            typed = ask_for_more(screen, desk, say("check.done.few"), too_few)
+            # Words that were found can be wrong, although the checksum finds nothing.
+            told = say("damaged.too_few") if any(it.is_repaired for it in desk.papers) else too_few
+            typed = ask_for_more(screen, desk, say("check.done.few"), told)
 
 
 def drill_with_passphrase(screen: Screen, desk: Desk, title: str) -> str:
@@ -86,10 +88,12 @@ def _tell_repaired(screen: Screen, desk: Desk, verdict: Verdict, result: str) ->
 
 
 def _tell_written(screen: Screen, desk: Desk, verdict: Verdict, result: str) -> None:
-    """Says what a drill shows of papers that were written again from others. Only the noted fingerprint shows that they work."""
+    """Says what a drill shows of papers that were written again from others. Only the noted fingerprint shows that they work. That a group
+    needs one paper is known only from the owner's answer."""
     written = [paper for paper in desk.papers if paper.is_rewritten and not paper.is_repaired and paper.name in verdict.names]
     if result == "good":
-        _tell_names(screen, "replace.right", written, "good")
+        _tell_names(screen, "replace.right", [paper for paper in written if paper.member_threshold > 1], "good")
+        _tell_names(screen, "replace.lone", [paper for paper in written if paper.member_threshold == 1], "")
     elif result == "same":
         _tell_names(screen, "replace.tried", written, "")
 
@@ -110,7 +114,7 @@ def _kind(desk: Desk, verdict: Verdict, result: str) -> str:
     """Returns what the heading of a result says. A good one isn't all if papers were left out, or can't be read in full."""
     if result == "good":
         is_whole = all(paper.name in verdict.names for paper in desk.papers)
-        is_written = any(it.is_rewritten and not it.is_repaired for it in desk.papers)
+        is_written = any(it.is_rewritten and not it.is_repaired and it.member_threshold > 1 for it in desk.papers)
         return "left_out" if desk.left_out or desk.others or not is_whole else "damaged" if desk.damaged else "written" if is_written else result
     return "other.none" if result == "other" and not verdict.has_passphrase else result
 

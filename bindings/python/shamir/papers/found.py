@@ -38,11 +38,11 @@ def tell_miswritten(screen: Screen, fits: Sequence[Paper], marks: Sequence[str],
 
 
 def possible(screen: Screen, fits: Sequence[Paper]) -> List[Paper]:
-    """Returns the papers that a backup can have, and says of each other one that it can't."""
-    for fit in fits:
-        if not fit.is_possible:
-            screen.tell(say("damaged.impossible", name=fit.name, groups=counted(fit.group_count, "group")), "bad")
-    return [fit for fit in fits if fit.is_possible]
+    """Returns the papers that a backup can have. If there are none, says of each other one that a backup can't have it."""
+    found = [fit for fit in fits if fit.is_possible]
+    for fit in [] if found else fits:
+        screen.tell(say("damaged.impossible", name=fit.name, groups=counted(fit.group_count, "group")), "bad")
+    return found
 
 
 def repaired(fit: str) -> Paper:

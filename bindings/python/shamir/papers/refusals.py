@@ -36,12 +36,12 @@ def said_repaired(repaired: Sequence[str], is_repaired: bool = False) -> str:
 
 
 def _undetermined(first: int, second: int, task: str) -> str:
-    """Says what a paper that isn't determined takes: papers of its group, or complete groups besides it and one paper fewer. If each
-    group is needed, which is the task 'all', only papers of its group give it."""
+    """Says what a paper that isn't determined takes: papers of its group, or complete groups besides it and one paper fewer. A group's
+    only paper takes complete groups alone. If each group is needed, which is the task 'all', only papers of its group give it."""
     members, threshold, groups, required = (second >> bits & 0xFF for bits in (24, 16, 8, 0))
     missing = threshold - members
     lost = "all.refused.66.lost" if threshold == 1 else "all.refused.66"
-    other = "refused.66.fewer" if missing > 1 else "refused.66"
+    other = "refused.66.only" if threshold == 1 else "refused.66.fewer" if missing > 1 else "refused.66"
     key = {"only": "only.refused.66", "all": lost}.get(task, other)
     more, fewer, whole = counted(missing, "paper"), counted(missing - 1, "paper"), counted(required, "whole")
     return say(key, group=first >> 8, more=more, fewer=fewer, whole=whole, groups=min(groups, required))

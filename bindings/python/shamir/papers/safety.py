@@ -6,13 +6,14 @@ import os
 import pathlib
 import resource
 import sys
-from typing import Iterator, List, Optional
+from typing import Collection, Iterator, List, Optional
 
 from shamir.papers.texts import say
 
 MLOCK_CURRENT, MLOCK_FUTURE = 1, 2
 PR_SET_DUMPABLE = 4
 RECORDERS = {"script", "scriptlive", "ttyrec", "asciinema", "termrec"}
+SSH = {"sshd", "sshd-session"}
 # With these, every block of memory that Python frees is overwritten at once: Python takes all of its memory from the C library,
 # and that of GNU overwrites what is freed.
 OVERWRITING = {"PYTHONMALLOC": "malloc", "GLIBC_TUNABLES": "glibc.malloc.perturb=85:glibc.malloc.tcache_count=0"}
@@ -67,9 +68,10 @@ def _warnings(kind: str) -> Iterator[str]:
         yield say("safety.network", names=", ".join(networks))
     if len(_text("/proc/swaps").splitlines()) > 1:
         yield say("safety.swap")
-    if os.environ.get("SSH_CONNECTION") or os.environ.get("SSH_TTY"):
+    # `sudo` and `su` take these variables away.
+    if os.environ.get("SSH_CONNECTION") or os.environ.get("SSH_TTY") or _above(SSH):
         yield say("safety.ssh")
-    recorder = _recorder()
+    recorder = _above(RECORDERS)
     if recorder:
         yield say("safety.recorded", name=recorder)
     if os.environ.get("STY"):
@@ -116,12 +118,12 @@ def _is_up(folder: str) -> bool:
     return state == "up" or (state == "unknown" and _text(f"{folder}/carrier").strip() == "1")
 
 
-def _recorder() -> Optional[str]:
-    """Returns the name of a program above this one that records the terminal."""
+def _above(programs: Collection[str]) -> Optional[str]:
+    """Returns the name of a program above this one that is one of these."""
     number, steps = os.getppid(), 0
     while number > 1 and steps < 64:
         name, _, rest = _text(f"/proc/{number}/stat").partition("(")[2].rpartition(")")
-        if name in RECORDERS:
+        if name in programs:
             return name
         fields = rest.split()
         if len(fields) < 2:

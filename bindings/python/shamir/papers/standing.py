@@ -37,7 +37,8 @@ def said_whole(status: shamir.Status, count: int, task: str = "") -> str:
     """Says whether the papers are enough. An owner whose backup has one group needn't know of groups."""
     if count == 1 and task == "replace" and status.groups[0].threshold > 1:
         return _said_only(status, "replace.enough", "replace.not_enough")
-    if status.enough and task == "check":
+    # A backup of one paper has no others to be typed.
+    if status.enough and task == "check" and (count > 1 or status.groups[0].threshold > 1):
         return say("status.enough.check")
     if status.enough or count == 1:
         return _said_only(status, "status.enough", "status.not_enough")
