@@ -107,7 +107,7 @@ uses = $(filter $(CRATES),$(shell sed -n 's/^$(1)\( [a-z0-9_=]*\)*://p' crates.t
 # are tests, measurements, and libraries for other languages. What the program uses comes first, since the most waits for it.
 LIBRARIES = $(call uses,$(PROGRAM)) $(filter-out $(PROGRAM) $(STATIC) $(TOOLS) s39_fixtures s39_tests_%,$(CRATES))
 # Libraries are proved side by side: as many as there are processors, and as many as get 3 GB of memory each.
-JOBS = $(shell awk -v most="$$(nproc)" '/^MemAvailable/ { n = int($$2 / 3000000); print n < 1 ? 1 : n < most ? n : most }' /proc/meminfo)
+JOBS = $(shell cd tools && $(PYTHON) -B -c 'import prover; print(prover.lanes())')
 SIDE_BY_SIDE = $(if $(filter -j%,$(MAKEFLAGS)),,-j$(JOBS)) --no-print-directory
 DOCUMENTS = README.md CHANGELOG.md CONTRIBUTING.md SECURITY.md LICENSE NOTICE
 # This command prints the name of each call of the library. `make install-lib` makes a link with each of these names to the
@@ -245,6 +245,8 @@ check-page: shamir $(PAGE)
 ifneq ($(filter-out check-portable,$(filter check%,$(MAKECMDGOALS))),)
 libshamir.a: | shamir
 $(TIMING): | libshamir.so $(if $(filter checks,$(MAKECMDGOALS)),shamir.wasm)
+$(CROSS)/shamir: | libshamir.a $(if $(WASM_OPT),shamir.wasm)
+$(CROSS)/libshamir.a: | $(CROSS)/shamir
 endif
 
 check-version: shamir
@@ -435,7 +437,7 @@ uninstall:
 	rmdir "$(DESTDIR)$(PYTHONDIR)" 2> /dev/null; true
 	rmdir "$(DESTDIR)$(PAGEDIR)" 2> /dev/null; true
 	for page in shamir $$($(CALLS)); do rm -f "$(DESTDIR)$(MANDIR)/man3/$$page.3"; done
-	cd "$(DESTDIR)$(DOCDIR)" && rm -f $(DOCUMENTS) docs/*.md docs/*.png examples/*.txt examples/*.sh examples/c/*.c examples/cpp/*.cpp && \
+	cd "$(DESTDIR)$(DOCDIR)/" && rm -f $(DOCUMENTS) docs/*.md docs/*.png examples/*.txt examples/*.sh examples/c/*.c examples/cpp/*.cpp && \
 	rmdir examples/c examples/cpp examples docs "$$(pwd)" 2> /dev/null; true
 
 wheel:
@@ -456,7 +458,7 @@ dist:
 wasm: shamir32.wasm
 
 # Proves the library once more, for WebAssembly, over the crates that it uses.
-shamir.wasm: libshamir.a
+shamir.wasm: libshamir.a tools/wasm
 	@RT=$(RT) tools/wasm
 
 shamir32.wasm: shamir.wasm

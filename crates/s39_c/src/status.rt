@@ -12,8 +12,8 @@ use s39_reading::status_lines;
 /// text goes to the start of `text`; `written` is its length in bytes, and the bytes after it are unchanged. The call
 /// needs no passphrase.
 ///
-/// `first` of the answer is the number of complete groups, and `second` is the group threshold. The mnemonics have a
-/// quorum if and only if `first` is at least `second`. If they have none, the code is still 0.
+/// After success, `first` of the answer is the number of complete groups, and `second` is the group threshold. The
+/// mnemonics have a quorum if and only if `first` is at least `second`. If they have none, the code is still 0.
 ///
 /// The call refuses with the first of these that applies, and `text` is then unchanged: the code of the first refused
 /// line (11 to 28, 71), 29 (there is no mnemonic), 1 (`text` is too short).
