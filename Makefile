@@ -107,7 +107,7 @@ uses = $(filter $(CRATES),$(shell sed -n 's/^$(1)\( [a-z0-9_=]*\)*://p' crates.t
 # are tests, measurements, and libraries for other languages. What the program uses comes first, since the most waits for it.
 LIBRARIES = $(call uses,$(PROGRAM)) $(filter-out $(PROGRAM) $(STATIC) $(TOOLS) s39_fixtures s39_tests_%,$(CRATES))
 # Libraries are proved side by side: as many as there are processors, and as many as get 3 GB of memory each.
-JOBS = $(shell cd tools && $(PYTHON) -B -c 'import prover; print(prover.lanes())')
+JOBS = $(or $(shell PYTHONPATH=tools $(PYTHON) -B -c 'import prover; print(prover.lanes())'),1)
 SIDE_BY_SIDE = $(if $(filter -j%,$(MAKEFLAGS)),,-j$(JOBS)) --no-print-directory
 DOCUMENTS = README.md CHANGELOG.md CONTRIBUTING.md SECURITY.md LICENSE NOTICE
 # This command prints the name of each call of the library. `make install-lib` makes a link with each of these names to the

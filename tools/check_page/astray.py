@@ -62,7 +62,7 @@ def check_impossible(page, see):
     page.lacks(say("damaged.one", name="12.0"))
     see("a paper that no backup has")
     clear(page)
-    # Two papers fit, of which no backup has one. So no typed word need be wrong.
+    # Two papers fit, and no backup has one of them. So perhaps no word that was typed is wrong.
     begin(page, "damaged")
     paste(page, with_words(SOUND_PAPER, {2: "?", 3: "?", 6: "?"}))
     page.wait_text(say("damaged.sure", name="0.0"))

@@ -132,7 +132,7 @@ FAULTS = [
     ("a drill without a paper that was taken out counts for it", "check", 'is_there = desk.written != "repaired" or', "is_there = True or", lambda see: repaired.check_taken_out()),
     ("a typed word is called wrong beside a paper that fits", "found", "for fit in [] if found else fits:", "for fit in set(fits) - set(found):", lambda see: repaired.check_impossible()),
     ("of too few papers, words that were found count as right", "check", "if any(it.is_repaired for it in desk.papers) else too_few", "if False else too_few", lambda see: repaired.check_few()),
-    ("that a group needs one paper counts as shown", "check", "if paper.member_threshold == 1], \"\")", "if False], \"\")", lambda see: repaired.check_lone()),
+    ("that a group needs one paper counts as shown", "check", "if paper.is_answered], \"\")", "if False], \"\")", lambda see: repaired.check_lone()),
     ("a program in the background loses its papers", "terminal", "if error.args[0] != errno.EINTR:", "if True:", scrollback.check),
     ("complete groups are asked for that there can't be", "replace", '"all" if plan.needed == len(plan.groups) else ""', '""', lambda see: astray.check_lost()),
     ("a passphrase that wasn't typed is called mistyped", "drill", 'if result == "other" and not has_passphrase:', "if False:", lambda see: astray.check_unsaid()),

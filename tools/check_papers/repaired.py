@@ -87,7 +87,7 @@ def check_impossible():
         owner.answer(say("damaged.menu.none"), "c")
         owner.answer(NUMBERED, SOUND_PAPER)
         owner.finish(say("damaged.menu"))
-    # Two papers fit, of which no backup has one. So no typed word need be wrong.
+    # Two papers fit, and no backup has one of them. So perhaps no word that was typed is wrong.
     with started("repair") as owner:
         owner.answer(say("damaged.ask"), with_words(SOUND_PAPER, {2: "?", 3: "?", 6: "?"}))
         owner.wait(say("damaged.menu"))
@@ -178,17 +178,19 @@ def check_taken_out():
 
 def check_whole():
     """A damaged paper that can be read in full, and is written anew: a good drill with it shows that it works, and nothing is to be kept."""
-    with started("repair") as owner:
-        owner.answer(say("damaged.ask"), THREE_GROUPS[0])
-        owner.answer(say("damaged.menu"), "w")
-        owner.answer(say("new.write"), "")
-        owner.type_paper(say("back.ask", name="0.0"), THREE_GROUPS[0])
-        owner.collect(THREE_GROUPS[1:4], 2)
-        owner.passphrase(PASSPHRASE, FINGERPRINT)
-        owner.wait(say("next.good"))
-        owner.expect(say("replace.right.one", names="0.0"))
-        owner.lacks(say("damaged.keep"))
-        owner.finish(say("next.good"), "closed")
+    # The paper itself says that its group needs one paper.
+    for line, name, others in [(THREE_GROUPS[0], "0.0", THREE_GROUPS[1:4]), (THREE_GROUPS[4], "2.0", THREE_GROUPS[:3])]:
+        with started("repair") as owner:
+            owner.answer(say("damaged.ask"), line)
+            owner.answer(say("damaged.menu"), "w")
+            owner.answer(say("new.write"), "")
+            owner.type_paper(say("back.ask", name=name), line)
+            owner.collect(others, 2)
+            owner.passphrase(PASSPHRASE, FINGERPRINT)
+            owner.wait(say("next.good"))
+            owner.expect(say("replace.right.one", names=name))
+            owner.lacks(say("damaged.keep"))
+            owner.finish(say("next.good"), "closed")
     with started("repair") as owner:
         owner.answer(say("damaged.ask"), THREE_GROUPS[0])
         owner.answer(say("damaged.menu"), "w")

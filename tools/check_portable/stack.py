@@ -28,6 +28,8 @@ DEEP = [
 LENGTHS = [16, 128]
 # Only so many bytes below the caller may be other than 0: the frame of the call itself, which has nothing secret.
 FRAME = 1024
+# Without optimisation, the function that clears at last has so many bytes of its own there, which are addresses and its arguments.
+PLAIN_LAST = 64
 # A call clears FRAMES_BYTES of packaging/portable/adapter.c below the deepest frame that it notes, with room for four of these.
 LARGEST_FRAME = 4096
 SHOWN = 8
@@ -37,7 +39,8 @@ def is_cleared(target: builds.Target, folder: str) -> str:
     """Sees that no call leaves anything secret on the stack, and all of it 0 below its own frame. Returns how many calls were made."""
     compiler = [target.compiler, *target.words, f"-I{builds.DIST}"]
     library = builds.compiled(target.compiler, *target.words)
-    told, count, deepest = calls.all_leftovers(compiler, library, LENGTHS, FRAME)
+    last = PLAIN_LAST if "-O0" in target.words else calls.ADDRESS
+    told, count, deepest = calls.all_leftovers(compiler, library, LENGTHS, FRAME, last=last)
     if told:
         raise Failed(f"{target.name}: something is left on the stack\n  " + "\n  ".join(told[:SHOWN]))
     return f"{target.name}: after each of {count} calls, nothing secret is left on the stack; below {deepest} bytes, all of it is 0"

@@ -119,7 +119,7 @@ class DecisionTests(unittest.TestCase):
     def results(self, case):
         anew = case["repaired"] + case["written"]
         lone = case.get("lone", [])
-        how = [{"is_repaired": it in case["repaired"], "is_rewritten": it in anew, "member_threshold": 1 if it in lone else 2} for it in case["here"]]
+        how = [{"is_repaired": it in case["repaired"], "is_rewritten": it in anew, "is_answered": it in lone} for it in case["here"]]
         papers = [paper_of(name, **it) for name, it in zip(case["here"], how)]
         groups = sorted({paper.group for paper in papers})
         status = shamir.Status(0, 1, tuple(shamir.GroupStatus(it, 1, tuple(one.name for one in papers if one.group == it)) for it in groups))

@@ -92,8 +92,8 @@ def _tell_written(screen: Screen, desk: Desk, verdict: Verdict, result: str) -> 
     needs one paper is known only from the owner's answer."""
     written = [paper for paper in desk.papers if paper.is_rewritten and not paper.is_repaired and paper.name in verdict.names]
     if result == "good":
-        _tell_names(screen, "replace.right", [paper for paper in written if paper.member_threshold > 1], "good")
-        _tell_names(screen, "replace.lone", [paper for paper in written if paper.member_threshold == 1], "")
+        _tell_names(screen, "replace.right", [paper for paper in written if not paper.is_answered], "good")
+        _tell_names(screen, "replace.lone", [paper for paper in written if paper.is_answered], "")
     elif result == "same":
         _tell_names(screen, "replace.tried", written, "")
 
@@ -114,7 +114,7 @@ def _kind(desk: Desk, verdict: Verdict, result: str) -> str:
     """Returns what the heading of a result says. A good one isn't all if papers were left out, or can't be read in full."""
     if result == "good":
         is_whole = all(paper.name in verdict.names for paper in desk.papers)
-        is_written = any(it.is_rewritten and not it.is_repaired and it.member_threshold > 1 for it in desk.papers)
+        is_written = any(it.is_rewritten and not it.is_repaired and not it.is_answered for it in desk.papers)
         return "left_out" if desk.left_out or desk.others or not is_whole else "damaged" if desk.damaged else "written" if is_written else result
     return "other.none" if result == "other" and not verdict.has_passphrase else result
 

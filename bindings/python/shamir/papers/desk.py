@@ -23,7 +23,8 @@ IDENTIFYING = 4
 @dataclass(frozen=True)
 class Paper:
     """A paper that the library found sound: its words, and what they say of the backup. `is_repaired` says that the library found some
-    of the words, and `is_rewritten` that the owner has written the paper anew since then."""
+    of the words, and `is_rewritten` that the owner has written the paper anew since then. `is_answered` says that its group needs one
+    paper, as only the owner said."""
 
     line: str = field(repr=False)
     name: str
@@ -37,6 +38,7 @@ class Paper:
     is_extendable: bool = False
     is_repaired: bool = False
     is_rewritten: bool = False
+    is_answered: bool = False
 
     @property
     def is_possible(self) -> bool:

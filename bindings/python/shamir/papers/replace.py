@@ -1,6 +1,7 @@
 """The task 'replace': papers that were destroyed are computed from the others, written down, typed back and drilled."""
 from __future__ import annotations
 
+import dataclasses
 from typing import Optional, Union
 
 import shamir
@@ -82,11 +83,13 @@ def _write(screen: Screen, desk: Desk) -> bool:
 def _computed(desk: Desk, name: str, plan: Plan) -> Union[Paper, str]:
     """Returns a missing paper, or says why it can't be written."""
     try:
-        return desk.reissue(plan.text, name)
+        paper = desk.reissue(plan.text, name)
     except shamir.Refusal as refusal:
         if refusal.code != shamir.Code.UNDETERMINED:
             return said_refusal(refusal)
         return f"{say('which.untold', name=name)} {said_refusal(refusal, _task_of(plan))}"
+    # No other paper of such a group is here.
+    return dataclasses.replace(paper, is_answered=paper.member_threshold == 1)
 
 
 def _task_of(plan: Plan) -> str:

@@ -71,7 +71,7 @@ def type_back(screen: Screen, desk: Desk, shown: Shown) -> None:
             continue
         typed = entry.paper(marks)
         if typed is not None and _is_right(screen, paper, typed):
-            desk.add(dataclasses.replace(typed, is_repaired=paper.is_repaired, is_rewritten=True))
+            desk.add(dataclasses.replace(typed, is_repaired=paper.is_repaired, is_answered=paper.is_answered, is_rewritten=True))
             screen.tell_next(say("back.same", name=paper.name))
             return
 
