@@ -268,7 +268,7 @@ def check_several_repaired(page, see):
         # A paper that was read has the same identifier, so it isn't in doubt any more.
         paste(page, SOUND_PAPER)
         page.wait_text(say("collect.taken.apart", name="0.0", begin=opening(SOUND_PAPER)))
-        page.lacks(say("refused.repaired.many", names="0.1, 0.2"))
+        page.lacks("Most likely one of the papers")
         page.push(say("collect.drop.of", name="0.0", begin=opening(SOUND_PAPER)))
         see("several repaired papers")
         page.push(say("collect.end"))
