@@ -210,7 +210,7 @@ def ask_names(owner):
         owner.wait(choose)
         owner.expect(told)
     for name, group, needed, why in [
-        ("1.0", 1, "1", "That takes 1 paper more of group 1. Or it takes 2 complete groups besides"),
+        ("1.0", 1, "1", "That takes 2 complete groups besides group 1, and you have 1 so far."),
         ("2.1", 2, "2", "That takes 2 papers more of group 2. Or it takes 1 paper more of group 2, and"),
     ]:
         owner.answer(choose, name)
