@@ -27,9 +27,9 @@ use s39_words::Share;
 /// wrong, or they aren't all from one split.
 #[derive(Clone, Copy, Debug, PartialEq, Eq)]
 pub enum Mismatch {
-    /// The member shares of this group, counted from 0: the first group whose digest doesn't match.
+    /// The member shares of this group, counted from 0: the first of those combined whose digest doesn't match.
     InGroup { group: u8 },
-    /// The group shares. In each group, the digest of the member shares matches.
+    /// The group shares. In each group that was combined, the digest of the member shares matches.
     OfGroups,
 }
 

@@ -1,4 +1,4 @@
--- How a set keeps its shares. No public contract cites this.
+-- How a set keeps its shares. Public contracts cite this only as the view of a `ShareSet`.
 use Rattle.std.specs.Prelude.{◌≡◌, ℕ, ◌+◌, ◌*◌, ◌<◌, List, length, filter, filter_map, Option, Some, None, Bool, not}
 use Rattle.std.specs.Prelude.{◌==◌, bytes_eq, IfSome, slice_index_or, if◌then◌else◌}
 use Rattle.std.specs.List.{list_any}

@@ -1,5 +1,5 @@
--- Long division of a list of coefficients by the generator of the checksum, and its remainder as one number. A law
--- cites `generator_times` and `packed`; no other public contract cites any of these.
+-- Long division of a list of coefficients by the generator of the checksum, and its remainder as one number. Laws
+-- cite `generator_times`, `packed` and `has_valid_checksum`, which `reading` uses; no public contract cites the others.
 use Rattle.std.specs.Prelude.{ℕ, ◌+◌, ◌*◌, ◌/◌, ◌%◌, ◌^◌, List, ◌++◌, Bool, ◌==◌, fold}
 use Rattle.s39_field.specs.FieldProduct.{word_field}
 use Rattle.s39_words.specs.Checksum.{customization_string, generator_square, generator_linear, generator_constant}
