@@ -38,7 +38,7 @@ def tell_miswritten(screen: Screen, fits: Sequence[Paper], marks: Sequence[str],
 
 
 def possible(screen: Screen, fits: Sequence[Paper]) -> List[Paper]:
-    """Returns the papers that a backup can have. If there are none, says of each other one that a backup can't have it."""
+    """Returns the papers that a backup can have. If there are none, says of each that no backup has it."""
     found = [fit for fit in fits if fit.is_possible]
     for fit in [] if found else fits:
         screen.tell(say("damaged.impossible", name=fit.name, groups=counted(fit.group_count, "group")), "bad")
