@@ -1,5 +1,7 @@
 /** Drills that say how far they are. */
 
+import { Copies } from "./copies.js";
+
 /** @typedef {import("./shamir.js").Engine} TheEngine */
 /** @typedef {import("./types.js").DrillOptions} DrillOptions */
 /** @typedef {import("./types.js").Lines} Lines */
@@ -25,17 +27,22 @@ const TURN_MILLISECONDS = 10;
  * @returns {AsyncGenerator<NumberedOutcome, void, void>}
  */
 export async function* drillWithProgress(engine, lines, options = {}) {
-  const given = typeof lines === "string" || ArrayBuffer.isView(lines) ? lines : [...lines];
-  let number = 0;
-  let quorums = 0n;
-  let start = performance.now();
-  for (const outcome of engine.drill(given, options)) {
-    if (number === 0) quorums = engine.quorums(given);
-    number++;
-    yield { ...outcome, number, quorums };
-    if (performance.now() - start < TURN_MILLISECONDS) continue;
-    // After a long call, Node takes a timer before it looks at signals, so one turn isn't enough.
-    for (let turn = 0; turn < 2; turn++) await new Promise((done) => setTimeout(done));
-    start = performance.now();
+  const own = new Copies();
+  try {
+    const given = own.lines(lines);
+    let number = 0;
+    let quorums = 0n;
+    let start = performance.now();
+    for (const outcome of engine.drill(given, options)) {
+      if (number === 0) quorums = engine.quorums(given);
+      number++;
+      yield { ...outcome, number, quorums };
+      if (performance.now() - start < TURN_MILLISECONDS) continue;
+      // After a long call, Node takes a timer before it looks at signals, so one turn isn't enough.
+      for (let turn = 0; turn < 2; turn++) await new Promise((done) => setTimeout(done));
+      start = performance.now();
+    }
+  } finally {
+    own.clear();
   }
 }

@@ -116,6 +116,15 @@ test("a drill with its progress", async () => {
   assert.deepEqual(await found(FIVE, { ...options, after: FIVE_QUORUMS[4] }), wanted.slice(5).map((it, i) => ({ ...it, number: i + 1 })));
   await assert.rejects(found(FIVE.slice(3, 4)), { code: 30 });
   await assert.rejects(found(7), TypeError);
+  await assert.rejects(found(new String(FIVE[0])), TypeError);
+  // An iterator may clear each line as soon as the next one is asked for.
+  function* cleared() {
+    for (const line of FIVE.map(bytesOf)) {
+      yield line;
+      line.fill(0);
+    }
+  }
+  assert.deepEqual(await found(cleared(), options), wanted);
   // Another task stops it. Of 16 members, 12,870 sets have 8.
   let [isStopped, last] = [false, null];
   setTimeout(() => (isStopped = true), 1);

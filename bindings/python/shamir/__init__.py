@@ -20,7 +20,7 @@ Each function passes its arguments to the library, and raises `Refusal` if the l
 which is encoded as UTF-8, or an object with the buffer protocol. Secrets and random bytes are objects with the buffer
 protocol. Anything else raises TypeError. A str with a lone surrogate, which UTF-8 can't encode, raises ValueError, and
 so does an object whose memory is no longer there, such as a released memoryview or a closed mmap. A number that doesn't
-fit the C type raises OverflowError. No exception holds a secret, a passphrase or a word of a mnemonic.
+fit the C type raises OverflowError. No exception's text holds a secret, a passphrase or a word of a mnemonic.
 
 The module loads the library that the environment variable SHAMIR_LIBRARY names. Without the variable it loads
 libshamir.so in the folder of this package, where `make lib` puts it, or else portable.so there, which is compiled from the
@@ -586,8 +586,9 @@ class _Copies:
         for number, part in enumerate(parts):
             if number:
                 room[at - 1] = ord("\n")
-            # A view without bytes can't be cast.
-            room[at : at + part.nbytes] = part.cast("B") if part.nbytes else b""
+            # A view without bytes, or one with gaps, can't be cast.
+            given = part.cast("B") if part.nbytes and part.c_contiguous else part
+            room[at : at + part.nbytes] = given if part.nbytes else b""
             at += part.nbytes + 1
         return copy, length
 
@@ -597,7 +598,8 @@ class _Copies:
     def lines(self, lines: ClearableLines) -> Tuple[Any, int]:
         if isinstance(lines, str) or _lends(lines):
             return self.data(cast(Data, lines))
-        parts = [_whole_line(number, memoryview(line)) for number, line in enumerate(cast(Iterable[Data], lines), 1)]
+        # Each line is copied before the next one is asked for: an iterator may use its buffer again.
+        parts = [_whole_line(number, memoryview(self.data(line)[0])) for number, line in enumerate(cast(Iterable[Data], lines), 1)]
         return self.joined(parts) if parts else self.data(b"")
 
 
@@ -995,7 +997,7 @@ def _clearable(lines: Lines) -> ClearableLines:
     """Return lines without a str among them. What isn't a str isn't copied."""
     if isinstance(lines, str) or _lends(lines):
         return _encoded(lines) if isinstance(lines, str) else cast(Data, lines)
-    return [_encoded(line) if isinstance(line, str) else line for line in cast(Iterable[Text], lines)]
+    return (_encoded(line) if isinstance(line, str) else line for line in cast(Iterable[Text], lines))
 
 
 class Papers:

@@ -207,7 +207,9 @@ class Parser(argparse.ArgumentParser):
 
 
 def main() -> None:
-    signal.signal(signal.SIGINT, signal.SIG_DFL)
+    # If the process was started to ignore Ctrl-C, it still does.
+    if signal.getsignal(signal.SIGINT) is signal.default_int_handler:
+        signal.signal(signal.SIGINT, signal.SIG_DFL)
     parser = Parser(prog="python3 -m shamir.cuts", description="Prints the options of N drills that together list what one drill would list.")
     parser.add_argument("parts", metavar="N", type=int, help="how many drills, 1 or more")
     parts = parser.parse_args().parts

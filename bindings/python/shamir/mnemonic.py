@@ -54,6 +54,7 @@ def generate_mnemonics(
         random = secrets.token_bytes(shamir.random_needed(plan, len(secret)))
         lines = shamir.create(plan, secret, passphrase=passphrase, exponent=iteration_exponent, extendable=extendable, random=random)
     except (shamir.Refusal, OverflowError) as refused:
+        _check_memory(refused)
         raise ValueError(str(refused)) from refused
     made = iter(lines)
     return [list(islice(made, count)) for _, count in members]
@@ -73,8 +74,15 @@ def combine_mnemonics(mnemonics: Iterable[str], passphrase: Text = b"") -> bytes
             _check(number, line)
         return shamir.recover(lines, passphrase=passphrase)
     except shamir.Refusal as refused:
+        _check_memory(refused)
         kind = ValueError if refused.code == shamir.Code.PASSPHRASE else MnemonicError
         raise kind(str(refused)) from refused
+
+
+def _check_memory(refused: Exception) -> None:
+    """Raise MemoryError if the library had no memory. No argument is at fault then."""
+    if isinstance(refused, shamir.Refusal) and refused.code == shamir.Code.NO_MEMORY:
+        raise MemoryError(refused.text) from None
 
 
 def _check(number: int, line: bytes) -> None:

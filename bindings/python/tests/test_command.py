@@ -4,6 +4,7 @@ import os
 import pathlib
 import pty
 import select
+import signal
 import subprocess
 import sys
 import tempfile
@@ -102,6 +103,24 @@ class Devices(unittest.TestCase):
             with open("/dev/full", "wb") as full, self.subTest(words):
                 done = subprocess.run([*COMMAND, *words], env=OWN, input=TEXT, stdout=full, stderr=subprocess.PIPE, timeout=ENOUGH)
                 self.assertEqual((done.returncode, done.stderr), (3, b"shamir: 73 write failed\n"))
+
+    def test_a_line_without_an_end(self):
+        for word in ["show", "repair"]:
+            with open("/dev/zero", "rb") as zeros:
+                self.assertEqual(ran(word, stdin=zeros), (1, "", "shamir: line 1: 71 line too long\n"))
+
+    def test_ctrl_c(self):
+        """It ends the command, unless that was started to ignore it, as a shell's background commands are."""
+        for action, status in [(signal.SIG_DFL, -signal.SIGINT), (signal.SIG_IGN, 0)]:
+            how = {"preexec_fn": lambda action=action: signal.signal(signal.SIGINT, action)}
+            with subprocess.Popen([*COMMAND, "show"], env=OWN, stdin=subprocess.PIPE, stdout=subprocess.PIPE, **how) as run:
+                run.stdin.write(f"{FIVE[0]}\n".encode())
+                run.stdin.flush()
+                run.stdout.readline()
+                run.send_signal(signal.SIGINT)
+                if action == signal.SIG_IGN:
+                    run.stdin.close()
+                self.assertEqual(run.wait(ENOUGH), status)
 
     def test_words_that_are_not_utf_8(self):
         self.assertEqual(ran("create", b"\xff"), (2, "", "shamir: the arguments aren't UTF-8\n"))

@@ -41,6 +41,27 @@ class Judgements(unittest.TestCase):
         self.assertEqual(shamir.judge([], ONE).status, shamir.status(ONE))
         self.assertEqual(dataclasses.asdict(shamir.parse(FIVE[4])), {**dataclasses.asdict(fields), "value": shamir.parse(FIVE[4]).value})
 
+    def test_lines_in_one_buffer(self):
+        """A line may be changed, or its buffer be emptied, as soon as the next one is asked for."""
+
+        def reused(is_emptied):
+            for line in FIVE:
+                buffer = bytearray(line.encode())
+                yield buffer
+                buffer[:] = b"" if is_emptied else bytes(len(buffer))
+
+        for is_emptied in [True, False]:
+            self.assertEqual(shamir.judge(reused(is_emptied), FIVE[4]), shamir.judge(FIVE, FIVE[4]))
+            self.assertEqual(shamir.recover(reused(is_emptied), passphrase="TREZOR"), SECRET)
+            room = bytearray(16)
+            shamir.recover_into(room, reused(is_emptied), passphrase=b"TREZOR")
+            self.assertEqual(room, SECRET)
+            self.assertEqual(shamir.encrypted_into(bytearray(16), reused(is_emptied)).id, ID)
+
+    def test_buffers_with_gaps(self):
+        mirrored = memoryview(FIVE[4].encode()[::-1])[::-1]
+        self.assertEqual(shamir.judge([mirrored], mirrored), shamir.judge([FIVE[4]], FIVE[4]))
+
     def test_what_judge_refuses(self):
         for code, line, details, lines, mnemonic in [
             (13, None, (0, 0), [WRONG], WRONG),

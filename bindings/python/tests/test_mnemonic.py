@@ -140,6 +140,18 @@ class Calls(unittest.TestCase):
         for arguments in [("1", [(1, 1)], SECRET), (1, [("1", 1)], SECRET), (1, [(1, 1)], SECRET.hex()), (1, [(1, 1)], SECRET, b"", 1), (1, 1, SECRET)]:
             self.assertRaises(TypeError, generate_mnemonics, *arguments)
 
+    def test_no_memory(self):
+        """If the library has no memory for a call, no argument is blamed."""
+        no_memory = shamir.Refusal(shamir.Code.NO_MEMORY, None, (0, 0), "4 no memory")
+        for name, call in [
+            ("parse", lambda: combine_mnemonics(PAIR)),
+            ("recover", lambda: combine_mnemonics(PAIR)),
+            ("random_needed", lambda: generate_mnemonics(*PLAN, OTHER_SECRET)),
+            ("create", lambda: generate_mnemonics(*PLAN, OTHER_SECRET)),
+        ]:
+            with mock.patch.object(shamir, name, side_effect=no_memory):
+                self.assertRaisesRegex(MemoryError, "^4 no memory$", call)
+
     def test_electrum(self):
         """Electrum recovers what is made without the extendable flag, which the Electrum of Debian 12 doesn't know."""
         asked, secrets = [], []

@@ -334,7 +334,7 @@ class WorkedExamples(unittest.TestCase):
             self.assertEqual(other[: shamir.decrypt_into(other, found, passphrase=memoryview(b"TREZOR"))], secret)
             room[:] = bytes(40)
             self.assertEqual(bytes(found.value), bytes(len(secret)))
-        for value in odd(ENCRYPTED[0][1].value)[:-1]:
+        for value in odd(ENCRYPTED[0][1].value):
             shamir.decrypt_into(other, dataclasses.replace(ENCRYPTED[0][1], value=value), passphrase=b"TREZOR")
             self.assertEqual(other[:16], SECRET)
 

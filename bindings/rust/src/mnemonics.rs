@@ -50,7 +50,7 @@ impl Mnemonics {
         self.as_str().lines()
     }
 
-    /// Gives how many mnemonics there are.
+    /// Gives how many lines there are.
     ///
     /// ```
     /// assert_eq!(["academic acid", "academic acne"].into_iter().collect::<shamir::Mnemonics>().len(), 2);
@@ -60,7 +60,7 @@ impl Mnemonics {
         self.iter().count()
     }
 
-    /// Whether there is no mnemonic.
+    /// Whether there is no line.
     ///
     /// ```
     /// assert!(shamir::Mnemonics::default().is_empty());

@@ -13,7 +13,8 @@ use s39_set::{ShareSet, first};
 /// Returns the iteration exponent in which the shares of a set agree (SLIP-0039, "Format of the share mnemonic"). The
 /// error is `Lack` if they have no quorum.
 ///
-/// `recover_set` takes 10,000 * 2^exponent iterations of PBKDF2 for this set. This function takes none.
+/// For this set, `recover_set` takes 10,000 * 2^exponent iterations of PBKDF2, and twice as many for a secret of more than
+/// 64 bytes. This function takes none.
 ///
 /// ```rust
 /// let line =

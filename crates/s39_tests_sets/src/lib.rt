@@ -1,5 +1,5 @@
 //! Tests of the set of shares and of backups: plans, creation, recovery, missing shares, and what the theorems about secrecy say.
-//! They stand on the crates that they test, and on no others.
+//! They stand on libraries, and not on the program.
 #![tactic(auto)]
 
 #[cfg(test)]

@@ -1,4 +1,4 @@
-//! Tests of mnemonics and of their repair. They stand on the crates that they test, and on no others.
+//! Tests of mnemonics and of their repair. They stand on libraries, and not on the program.
 #![tactic(auto)]
 
 #[cfg(test)]

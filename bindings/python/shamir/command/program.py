@@ -36,8 +36,9 @@ DROPPED = "shamir: the rest of the input is dropped: end it with Ctrl-D\n"
 
 def main() -> int:
     """Run the command that the words of the process give, and return the exit status."""
-    # Ctrl-C ends the process at once and without a traceback, in which secrets could stand.
-    signal.signal(signal.SIGINT, signal.SIG_DFL)
+    # Ctrl-C ends the process at once and without a traceback, in which secrets could stand, unless the process was started to ignore it.
+    if signal.getsignal(signal.SIGINT) is signal.default_int_handler:
+        signal.signal(signal.SIGINT, signal.SIG_DFL)
     words = devices.arguments()
     if words is None:
         say("shamir: the arguments aren't UTF-8\n")

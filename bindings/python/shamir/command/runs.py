@@ -173,7 +173,7 @@ def lines_of(job: Job) -> Iterator[Tuple[int, bytes]]:
     job.ask()
     number = 0
     while True:
-        line = job.data.line()
+        line = job.data.line(devices.LINE_BYTES_MAX + 1)
         if not line:
             return
         number += 1
