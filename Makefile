@@ -80,10 +80,10 @@ VERSION = 1.0.0
 # number of VERSION.
 SONAME = libshamir.so.1
 # shamir.pc names these paths, so they must not depend on the folder in which make runs. To `abspath`, a space ends a path.
-$(foreach it,PREFIX LIBDIR INCLUDEDIR,$(if $(word 2,$($(it))),$(error $(it) must have no space)))
 override PREFIX := $(abspath $(PREFIX))
 override LIBDIR := $(abspath $(LIBDIR))
 override INCLUDEDIR := $(abspath $(INCLUDEDIR))
+$(foreach it,PREFIX LIBDIR INCLUDEDIR,$(if $(word 2,$($(it))),$(error $(it) must have no space)))
 # Plain x86-64 lets the program and the library run on every such processor. Old machines without a network suit secrets well. On an
 # earlier state, a drill and a recovery took 0.3% more instructions than with x86-64-v2.
 CPU = x86-64
@@ -450,7 +450,7 @@ release: shamir.html
 	@$(PYTHON) tools/release
 
 dist:
-	@top=$$(git rev-parse --show-toplevel 2>&1); test "$$top" = "$$(pwd -P)" || \
+	@top=$$(git -c 'safe.directory=*' rev-parse --show-toplevel 2>&1); test "$$top" = "$$(pwd -P)" || \
 	{ echo "make dist: this folder isn't the top of a git checkout, so there is no commit to pack: $$top" >&2; exit 1; }
 	@$(MAKE) -s shamir libshamir.so shamir.html $(and $(wildcard $(CROSS)/shamir),$(wildcard $(CROSS)/libshamir.so),$(CROSS)/shamir $(CROSS)/$(SONAME))
 	@RT=$(RT) $(PYTHON) tools/dist $(VERSION)

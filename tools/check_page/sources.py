@@ -19,10 +19,10 @@ FORBIDDEN = [
     r"\bdownload\b", r"preconnect|prefetch|prerender", r"speculationrules", r"\bsubmit\(", r"requestStorage", r"window\.name", r"\bNotification\b", r"createElement\((?!tag\))", r"setTimeout\(\s*[\"'`]",
 ]
 # A field is made in one place, with the attributes that keep it out of the profile.
-FIELDS = re.compile(r'element\(\s*"(input|textarea|select|form|a|iframe|img|link|object|embed|script|style)"')
+FIELDS = re.compile(r"""element\(\s*["'`](input|textarea|select|form|a|iframe|img|link|object|embed|script|style)["'`]""")
 COMMENT = re.compile(r"(?s:/\*.*?\*/)|^\s*//.*$", re.MULTILINE)
 ATTRIBUTES = ['autocomplete: "off"', 'autocapitalize: "off"', 'spellcheck: "false"', 'translate: "no"']
-KEY = re.compile(r'\bsay\(\s*"([^"]+)"')
+KEY = re.compile(r"""\bsay\(\s*["']([^"']+)["']""")
 
 
 def modules(page):

@@ -1,5 +1,5 @@
 //! The words of a text, each found and looked up in one pass over its bytes.
-ghost use Rattle.std.specs.Prelude.{◌≡◌, ℕ, ◌-◌, ◌<◌, ◌≤◌, ◌↔◌, List, ◌∷◌, ◌++◌, [], length, All, Some, None, IsSome, IfSome, IsTrue};
+ghost use Rattle.std.specs.Prelude.{◌≡◌, ℕ, ◌-◌, ◌<◌, ◌≤◌, ◌↔◌, List, ◌∷◌, ◌++◌, [], length, drop, All, Some, None, IsSome, IfSome, IsTrue};
 ghost use Rattle.std.specs.Char.{is_ascii_alphabetic, to_ascii_lowercase};
 ghost use Rattle.std.specs.Option.{ForNone};
 ghost use Rattle.std.specs.Str.{str_to_ascii_lowercase};
@@ -53,7 +53,7 @@ pub fn is_separator(byte: u8) -> bool
 pub fn after_separators(text: &[u8]) -> &[u8]
     ensures same_words { words_of result.now ≡ words_of text.now }
     ensures begins { BeginsInWord result.now }
-    ensures short { length result.now ≤ length text.now }
+    ensures suffix { (n : ℕ) × (result.now ≡ drop n text.now) }
 {
     let mut rest = text;
     while !rest.is_empty() && is_separator(rest[0]) {

@@ -1,5 +1,6 @@
-use Rattle.std.proofs.Common.{◌≡◌, ◌≤◌, [], refl, sym, subst, arith, rules}
+use Rattle.std.proofs.Common.{◌≡◌, ◌≤◌, [], length, refl, sym, subst, ap, arith, rules}
 use Rattle.std.proofs.lemmas.Bool.{false≢true}
+use Rattle.std.proofs.lemmas.List.{length-drop}
 use Rattle.std.specs.Str.{str_to_ascii_lowercase}
 use Rattle.s39_words.specs.declared.prefix.WordRange.{WordRange}
 use Rattle.s39_repair.specs.Marks.{IsRange}
@@ -11,7 +12,7 @@ loop-rest-init c =
     let rest = c.after_separators-rest in
     record {
       begins = rest.ensures.begins;
-      short = omega (arith, rest.ensures.short);
+      short = omega (arith, ap length rest.ensures.suffix.1, length-drop rest.ensures.suffix.0 c.args.line.now);
       keeps = subst (λ (kept : _). KeepsMarks c.args.line.now rest.result.now kept 0) (sym c.new-marks.ensures)
           (keeps_none c.args.line.now rest.result.now rest.ensures.same_words);
     }
@@ -26,7 +27,9 @@ loop-rest-preserved c =
     let range = c.choice_of-range in
     record {
       begins = next.ensures.begins;
-      short = omega (arith, c.loop-rest.invariant.short, next.ensures.short, first.ensures.short);
+      short =
+          omega (arith, c.loop-rest.invariant.short, ap length next.ensures.suffix.1,
+          length-drop next.ensures.suffix.0 first.result.rest.now, first.ensures.short);
       keeps =
           keeps_mark c.args.line.now c.loop-rest.rest.now first.result.rest.now next.result.now (str_to_ascii_lowercase first.result.mark.now)
           c.loop-rest.marks c.try_push.new.self c.loop-rest.words range.result c.try_push.result

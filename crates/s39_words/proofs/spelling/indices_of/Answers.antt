@@ -1,5 +1,6 @@
-use Rattle.std.proofs.Common.{◌≡◌, [], refl, sym, subst, arith, rules}
+use Rattle.std.proofs.Common.{◌≡◌, [], length, refl, sym, subst, ap, arith, rules}
 use Rattle.std.proofs.lemmas.Bool.{false≢true}
+use Rattle.std.proofs.lemmas.List.{length-drop}
 use Rattle.s39_words.proofs.Indices.{KeepsWords, keeps_none, first_unknown, keeps_word, kept_below, all_kept, no_word_count}
 use Rattle.s39_words.proofs.spelling.indices_of.Goals as goal
 
@@ -8,7 +9,7 @@ loop-rest-init c =
     let rest = c.after_separators-rest.ensures in
     record {
       begins = rest.begins;
-      short = omega (arith, rest.short);
+      short = omega (arith, ap length rest.suffix.1, length-drop rest.suffix.0 c.args.line.now);
       keeps =
           subst (λ kept. KeepsWords c.args.line.now c.after_separators-rest.result.now kept 0) (sym c.new-indices.ensures)
           (keeps_none c.args.line.now c.after_separators-rest.result.now rest.same_words);
@@ -25,7 +26,9 @@ loop-rest-preserved c =
     let known = c.in-Some.ensures.known in
     record {
       begins = next.ensures.begins;
-      short = omega (arith, c.loop-rest.invariant.short, next.ensures.short, c.in-Some.ensures.short);
+      short =
+          omega (arith, c.loop-rest.invariant.short, ap length next.ensures.suffix.1,
+          length-drop next.ensures.suffix.0 c.in-Some.word.rest.now, c.in-Some.ensures.short);
       keeps =
           keeps_word c.args.line.now c.loop-rest.rest.now c.in-Some.word.rest.now next.result.now known.0 c.loop-rest.indices c.try_push.new.self
           c.loop-rest.words c.in-Some.word.index c.try_push.result
