@@ -398,7 +398,7 @@ shamir_answer shamir_encrypted(
  *
  * *parameters and encrypted are what shamir_encrypted gave. The secret goes to the start of secret. written is its length, which is
  * encrypted_bytes. expected and the iterations are as for shamir_recover, which gives the same secret from the mnemonics. No argument
- * limits the exponent: if you want a limit, look at that field first. The call refuses with 52 or 1 only after the iterations.
+ * limits the exponent: if you want a limit, look at that field before. The call refuses with 52 or 1 only after the iterations.
  *
  * The call refuses with the first of these that applies: 2 (a field of *parameters is out of its range), 44, 41, 42
  * (encrypted_bytes), 52, 1.
@@ -503,7 +503,7 @@ shamir_answer shamir_drill(
  * line is followed by a line for each group that has a member among the mnemonics, in ascending order:
  *
  *     groups C of R                   C groups are complete, and the group threshold is R
- *     group G members N of T NAMES    group G has N members in lines, its member threshold is T, and NAMES are their names
+ *     group G members N of T NAMES    the group G has N members in lines, its member threshold is T, and NAMES are their names
  *
  * A line feed ends every line. NAMES are in ascending order, joined by plus signs. After success, the field first of the answer
  * is C, and second is R. The mnemonics have a quorum if and only if first is at least second. If they have none, the code is
@@ -654,7 +654,7 @@ shamir_answer shamir_reissue(
  * Splits the encrypted secret of an extendable backup anew, by another plan, and gives the mnemonics of this new backup.
  *
  * plan          the text of the plan of the new backup, as for shamir_random_needed
- * lines         mnemonics of the old backup that are enough, as for shamir_recover
+ * lines         sufficient mnemonics of the old backup, as for shamir_recover
  * random        exactly as many bytes as shamir_create takes for this plan and a secret as long as the value of a mnemonic; they
  *               must be unpredictable, and no other backup may use them
  * mnemonics     the output: the mnemonics of the new backup in the order of groups and members, with a line feed after each; an

@@ -95,6 +95,21 @@ export class Backups {
   }
 
   /**
+   * Returns the names of the papers of which words were found, of the backup that a paper says it is of. It says so only if it is sound.
+   *
+   * @param {Uint8Array} line
+   */
+  repairedBeside(line) {
+    try {
+      const { id } = kindOf(this.#engine, line);
+      return this.#papers.lines(id).map((it) => this.#kind(it)).filter(({ isRepaired }) => isRepaired).map(({ name }) => name);
+    } catch (error) {
+      if (error instanceof Refusal) return [];
+      throw error;
+    }
+  }
+
+  /**
    * Takes a paper that was typed back as it was shown. `how` says whether words of it were found, or it was written again from others.
    *
    * @param {Uint8Array} line
@@ -138,6 +153,8 @@ export class Backups {
   drop(id, name) {
     const [all, own] = [this.#all, this.#papers.lines(id)];
     const dropped = own.filter((line) => kindOf(this.#engine, line).name === name);
+    // It may be gone already, by a press before this one.
+    if (dropped.length === 0) return this.list;
     zero(...this.#rest.dropped);
     this.#rest.dropped = dropped.map((line) => line.slice());
     this.#hold(all.filter((line) => !dropped.includes(line)));

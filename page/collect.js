@@ -117,11 +117,6 @@ class Collection {
     return this.#backups.length > 1;
   }
 
-  /** The names of the papers of which words were found. */
-  get #repaired() {
-    return this.#backups.flatMap(({ kinds }) => kinds).filter(({ isRepaired }) => isRepaired).map(({ name }) => name);
-  }
-
   /**
    * @param {Uint8Array} line
    * @returns {Promise<Answer>}
@@ -138,8 +133,14 @@ class Collection {
       return { isTaken: true, isFault: isOther, text };
     } catch (error) {
       this.#offerEnd(null);
-      return { isTaken: false, text: saidForeign(error, this.#repaired), words: wordsToLookAt(error) };
+      return { isTaken: false, text: saidForeign(error, await this.#doubtful()), words: wordsToLookAt(error) };
     }
+  }
+
+  /** Returns the names of the papers of which words were found, of the backup of the paper in the fields. */
+  #doubtful() {
+    const line = this.#entry.line();
+    return this.#desk.ask("doubtful", { line }, [line.buffer]);
   }
 
   /**

@@ -25,6 +25,8 @@ import { selfTest } from "./self_test.js";
 /** @typedef {Own & {backups: import("./backups.js").Kept}} Held */
 /** @typedef {{code: number, details: number[], text: string}} Refused */
 
+const QUESTION_MARK = 63;
+
 /** @type {Engine} */
 let engine;
 /** @type {Backups} */
@@ -73,6 +75,19 @@ function describe({ line }) {
 function add({ line }) {
   try {
     return backups.add(line);
+  } finally {
+    zero(line);
+  }
+}
+
+/**
+ * Returns the names of the papers of which words were found, of the backup that a paper says it is of.
+ *
+ * @param {{line: Uint8Array}} given
+ */
+function doubtful({ line }) {
+  try {
+    return backups.repairedBeside(line);
   } finally {
     zero(line);
   }
@@ -185,7 +200,8 @@ function reissue({ plan, name }) {
 function repair({ line }) {
   zero(...held.shown);
   held.shown = [];
-  held.how = "repaired";
+  // Without a mark, no word is found.
+  held.how = line.includes(QUESTION_MARK) ? "repaired" : "";
   try {
     held.shown = engine.repairBytes(line);
     return held.shown.map((line) => ({ ...kindOf(engine, line), isFitting: backups.fits(line) }));
@@ -313,6 +329,7 @@ const CALLS = {
   begin,
   describe,
   add,
+  doubtful,
   leaveOut: ({ line }) => backups.leaveOut(line),
   leftOut: () => backups.leftOut,
   backups: () => backups.list,

@@ -2,7 +2,7 @@
 import { button, element, labelled } from "./dom.js";
 import { say } from "./say.js";
 import { announce, askAbove } from "./screen.js";
-import { seemsBip39 } from "./spelling.js";
+import { beginning, seemsBip39 } from "./spelling.js";
 import { WordField } from "./word_field.js";
 
 /**
@@ -185,7 +185,10 @@ export class PaperEntry {
     this.#changed();
     const isWhole = at === 0 && words.length >= USUAL_WORDS[0];
     if (isWhole || at + words.length > this.count) this.setCount(Math.min(COUNT_MAX, at + words.length));
-    words.slice(0, COUNT_MAX - at).forEach((word, index) => this.#fields[at + index].set(word));
+    words.slice(0, COUNT_MAX - at).forEach((word, index) => {
+      const found = beginning(this.#list, word);
+      this.#fields[at + index].set(found.length === 1 ? found[0] : word);
+    });
     const after = at + words.length;
     if (after < this.count) this.#fields[after].focus();
     else this.#fields[this.count - 1].focus();

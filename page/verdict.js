@@ -8,7 +8,7 @@ import { counted, formOf, say } from "./say.js";
 /**
  * What a drill found: no fault, or that it was stopped, or that all quorums give another secret than the expected one, that none
  * gives it, that some don't, or that they give several secrets. With it how many quorums were tried, if not all were, the sentences that
- * say what was found, the papers that were tried, those of them that are in a right quorum, the fingerprint of the right secret as far as
+ * say what was found, the papers that were tried, those of them that are in a right quorum, or, without one, belong together as a digest says, the fingerprint of the right secret as far as
  * it is known, whether a passphrase was typed, whether the secret was compared with what the owner noted, and is equal, and whether
  * something is wrong.
  *
@@ -64,6 +64,15 @@ export function saidOutcome({ fingerprint, expected, mismatch }, noted) {
 }
 
 /**
+ * Whether a digest says that the papers of a quorum belong together. A quorum of one paper has none.
+ *
+ * @param {Tried} outcome
+ */
+function isTogether({ names, mismatch }) {
+  return mismatch === null && names.length > 1;
+}
+
+/**
  * Returns the papers of quorums, each once.
  *
  * @param {readonly Tried[]} tried
@@ -93,7 +102,7 @@ export function verdictOf(tried, total, asked) {
     part: isWhole && !isStopped ? "" : saidTried(tried.length, total),
     sentences,
     names: namesOf(tried),
-    right: namesOf(right),
+    right: namesOf(right.length ? right : tried.filter(isTogether)),
     hasPassphrase,
     isEqual: result === "good" && !isStopped && noted !== "" && !isOwn,
     isWrong: result !== "good" && tried.length > 0,

@@ -106,6 +106,39 @@ def check_repaired(page, see):
     end(page)
 
 
+def check_blamed(page, see):
+    """What isn't in doubt isn't blamed: a paper of which no word was found, one of another backup, and one that fits another, as its digest says."""
+    papers = papers_of("2of3")
+    begin(page, "damaged")
+    paste(page, " ".join(word[:4] for word in papers[0].split()))
+    page.push(say("damaged.write", name="0.0"), to=say("paper.title", name="0.0"))
+    page.push(say("paper.written"), to=say("back.title", name="0.0"))
+    paste(page, papers[0])
+    page.wait_title(say("damaged.check.title"))
+    paste(page, changed(papers[1], exponent=3))
+    page.wait_text(say("refused.23"))
+    page.push(say("entry.empty"))
+    see("a whole paper isn't blamed")
+    page.push(say("damaged.another"))
+    write_anew(page, papers[1])
+    page.wait_text(say("collect.row.repaired", name="0.1", words=20))
+    paste(page, TWO[0])
+    page.wait_text(say("collect.apart", count=2))
+    paste(page, changed(TWO[1], exponent=3))
+    page.wait_text(say("refused.23"))
+    page.lacks("Most likely paper 0.1 is wrong")
+    page.push(say("entry.empty"))
+    page.push(say("collect.drop.of", name=name_of(TWO[0]), begin=opening(TWO[0])))
+    take(page, [changed(papers[2], value=bytes(16))])
+    page.push(say("collect.end"))
+    drill(page, "mistyped", fingerprint_of(papers, ""))
+    page.wait_title(say("check.done.none"))
+    page.lacks("Most likely paper 0.1 is wrong")
+    page.wait_text(say("damaged.keep"))
+    see("a repaired paper that fits another one")
+    end(page)
+
+
 def check_untried(page, see):
     """Only a drill that has a repaired paper, and that gives the noted fingerprint, shows that the damaged one isn't needed any more."""
     papers = papers_of("1/2of3,2of3")
@@ -280,4 +313,4 @@ def check_several_repaired(page, see):
         end(page)
 
 
-CHECKS = [check_apart, check_several_repaired, check_left_out, check_impossible, check_repaired, check_untried, check_lost, check_without]
+CHECKS = [check_apart, check_several_repaired, check_left_out, check_impossible, check_repaired, check_blamed, check_untried, check_lost, check_without]

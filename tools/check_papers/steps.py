@@ -4,7 +4,7 @@ from refusals import NUMBERED, back_prompt, word_prompt
 from tasks import SIGN, end_by_keys, in_turn, paper_prompt, started
 
 import plain
-from samples import FINGERPRINT, PASSPHRASE, SECRET, SOUND_PAPER, THREE_GROUPS, papers_of, with_words
+from samples import FINGERPRINT, PASSPHRASE, SECRET, SOUND_PAPER, THREE_GROUPS, TWO, papers_of, with_words
 
 MENU = say("home.choose")
 
@@ -147,6 +147,9 @@ def type_back(owner, papers):
     owner.answer(first, SOUND_PAPER)
     owner.wait(first)
     owner.expect(say("back.foreign", name="0.0", typed="0.0"))
+    owner.answer(first, TWO[0])
+    owner.wait(first)
+    owner.expect(say("back.foreign", name="0.0", typed="0.2"))
     owner.answer(first, with_words(papers[0], {1: "?"}))
     owner.answer(back_prompt(1), SIGN)
     owner.expect(say("entry.mark.none", number=1, word="?"))

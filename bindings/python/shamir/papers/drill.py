@@ -22,7 +22,8 @@ NAMED_MAX = 8
 class Verdict:
     """What a drill found: 'good', 'stopped', or that all quorums give another secret than the expected one ('other'), that none gives
     it ('none'), that some don't ('some'), or that they give several secrets ('several'). With it the sentences that say so, the names of
-    the papers that were tried, and of those that are in a right quorum, and whether a passphrase was typed. `is_own` says that the
+    the papers that were tried, and of those that are in a right quorum, or, without one, belong together as a digest says, and whether a
+    passphrase was typed. `is_own` says that the
     secret wasn't compared with what the owner noted, but with the one that was just backed up. `fingerprint` is that of the right
     secret, as far as it is known. `part` says how many quorums were tried, if not all were, and `is_wrong` that one of these is wrong."""
 
@@ -124,7 +125,7 @@ def verdict_of(
     part = say("drill.tried", tried=f"{len(tried):,}", total=said_total(total)) if is_stopped or len(tried) != total else ""
     is_wrong = result != "good" and bool(tried)
     wanted = _wanted(noted, found)
-    right = _names(it for it in tried if gives(it, wanted))
+    right = _names(it for it in tried if gives(it, wanted)) or _names(it for it in tried if it.mismatch is None and len(it.names) > 1)
     return Verdict("stopped" if is_stopped else result, sentences, _names(tried), right, has_passphrase, is_own, wanted, part, is_wrong)
 
 
