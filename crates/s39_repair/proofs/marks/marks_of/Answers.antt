@@ -28,8 +28,13 @@ loop-rest-preserved c =
     record {
       begins = next.ensures.begins;
       short =
-          omega (arith, c.loop-rest.invariant.short, ap length next.ensures.suffix.1,
-          length-drop next.ensures.suffix.0 first.result.rest.now, first.ensures.short);
+          omega (
+            arith,
+            c.loop-rest.invariant.short,
+            ap length next.ensures.suffix.1,
+            length-drop next.ensures.suffix.0 first.result.rest.now,
+            first.ensures.short,
+          );
       keeps =
           keeps_mark c.args.line.now c.loop-rest.rest.now first.result.rest.now next.result.now (str_to_ascii_lowercase first.result.mark.now)
           c.loop-rest.marks c.try_push.new.self c.loop-rest.words range.result c.try_push.result

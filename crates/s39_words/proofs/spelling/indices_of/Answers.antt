@@ -27,8 +27,13 @@ loop-rest-preserved c =
     record {
       begins = next.ensures.begins;
       short =
-          omega (arith, c.loop-rest.invariant.short, ap length next.ensures.suffix.1,
-          length-drop next.ensures.suffix.0 c.in-Some.word.rest.now, c.in-Some.ensures.short);
+          omega (
+            arith,
+            c.loop-rest.invariant.short,
+            ap length next.ensures.suffix.1,
+            length-drop next.ensures.suffix.0 c.in-Some.word.rest.now,
+            c.in-Some.ensures.short,
+          );
       keeps =
           keeps_word c.args.line.now c.loop-rest.rest.now c.in-Some.word.rest.now next.result.now known.0 c.loop-rest.indices c.try_push.new.self
           c.loop-rest.words c.in-Some.word.index c.try_push.result
