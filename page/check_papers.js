@@ -34,7 +34,7 @@ export async function checkPapers(desk) {
  * @param {Desk} desk
  * @param {{title: string, intro: string, passphrase: string, drill: string, steps: number[], hasDamaged?: boolean}} what `passphrase` is the
  *   title of the form for what was noted, and `drill` is that of the drill. `steps` are those of the papers, of what was noted, and of the
- *   drill. `hasDamaged` says that another damaged paper may be read
+ *   drill. `hasDamaged` says that a damaged paper was read, and another one may be
  * @param {(kinds: Kind[]) => HTMLElement[]} saidFew says what too few papers show
  * @returns {Promise<boolean>}
  */
@@ -73,11 +73,11 @@ export async function saidLeftOut(desk) {
  * @param {Desk} desk
  * @param {Status} status
  * @param {Kind[]} kinds
- * @param {{title: string, passphrase: string, steps: number[]}} what `passphrase` is the title of the form for what was noted, and `title` is
- *   that of the drill. `steps` are those of both
+ * @param {{title: string, passphrase: string, steps: number[], hasDamaged?: boolean}} what `passphrase` is the title of the form for what was
+ *   noted, and `title` is that of the drill. `steps` are those of both. `hasDamaged` says that a damaged paper was read
  * @returns {Promise<"papers" | "end">}
  */
-export async function drillWithPassphrase(desk, status, kinds, { title, passphrase, steps }) {
+export async function drillWithPassphrase(desk, status, kinds, { title, passphrase, steps, hasDamaged = false }) {
   let fault = "";
   /** @type {string | null} */
   let noted = null;
@@ -97,7 +97,7 @@ export async function drillWithPassphrase(desk, status, kinds, { title, passphra
       fault = saidRefusal(verdict.refused);
       continue;
     }
-    const answer = await tellVerdict(verdict, noted, { status, kinds, left: await saidLeftOut(desk) });
+    const answer = await tellVerdict(verdict, noted, { status, kinds, left: await saidLeftOut(desk), hasDamaged });
     if (answer !== "again") return answer;
     fault = "";
   }
@@ -108,9 +108,9 @@ export async function drillWithPassphrase(desk, status, kinds, { title, passphra
  *
  * @param {Verdict} verdict
  * @param {string} noted
- * @param {{status: Status, kinds: Kind[], left: HTMLElement | null}} papers `left` says which papers were left out
+ * @param {{status: Status, kinds: Kind[], left: HTMLElement | null, hasDamaged: boolean}} papers `left` says which papers were left out
  */
-function tellVerdict(verdict, noted, { status, kinds, left }) {
+function tellVerdict(verdict, noted, { status, kinds, left, hasDamaged }) {
   const { result, fingerprint, hasPassphrase, table } = verdict;
   const [isGood, isNoted] = [result === "good", noted !== ""];
   const namesOf = (/** @type {(kind: Kind) => boolean} */ isMeant) => kinds.filter(isMeant).map(({ name }) => name);
@@ -124,6 +124,8 @@ function tellVerdict(verdict, noted, { status, kinds, left }) {
     ...tried,
     left,
     ...anew,
+    // A damaged paper that was read in full has no words that were found.
+    hasDamaged && repaired.length === 0 && !(isGood && isNoted) ? paragraph(say("damaged.keep"), "note") : null,
     isGood ? null : paragraph(again + say(`check.${result}`)),
     ...(isGood && !isNoted && fingerprint ? [paragraph(say("noted.first")), element("p", { class: "fingerprint" }, fingerprint)] : []),
     table,

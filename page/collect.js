@@ -1,4 +1,5 @@
 // The screen on which papers are typed, one after the other. Those of several backups are kept apart, and the owner goes on with those of one.
+import { Declined } from "./client.js";
 import { BACK, button, element, paragraph } from "./dom.js";
 import { leaveEntry, PaperEntry, USUAL_WORDS } from "./paper_entry.js";
 import { picture, saidWhole } from "./picture.js";
@@ -133,7 +134,7 @@ class Collection {
       return { isTaken: true, isFault: isOther, text };
     } catch (error) {
       this.#offerEnd(null);
-      return { isTaken: false, text: saidForeign(error, await this.#doubtful()), words: wordsToLookAt(error) };
+      return { isTaken: false, text: saidForeign(error, error instanceof Declined ? await this.#doubtful() : []), words: wordsToLookAt(error) };
     }
   }
 
@@ -182,6 +183,8 @@ class Collection {
   }
 
   async #putBack() {
+    // It is put back once, also if the button is pressed twice.
+    this.#undo.replaceChildren();
     const { kind, backups } = await this.#desk.ask("putBack");
     this.#backups = backups;
     this.#draw();

@@ -20,7 +20,7 @@ import { selfTest } from "./self_test.js";
 /** @typedef {Counts & Parameters & Found & {name: string, words: number, begin: string}} Kind what a paper is. `begin` is its first words */
 /** @typedef {{id: number, begin: string, kinds: Kind[], status: Status}} Backup the papers of a backup, all of which begin with the same words */
 /** @typedef {{unsound: number, names: string[], apart: {begin: string, names: string[]}[]}} LeftOut */
-/** @typedef {"" | "repaired" | "written"} How how the papers that are shown were made: as new ones, by words that were found, or from others */
+/** @typedef {"" | "repaired" | "written"} How how the papers that are shown were made: as new ones or of words that were all read, by words that were found, or from others */
 /** @typedef {{old: Uint8Array[], shown: Uint8Array[], how: How, passphrase: Uint8Array, secret: Uint8Array, fingerprint: string}} Own */
 /** @typedef {Own & {backups: import("./backups.js").Kept}} Held */
 /** @typedef {{code: number, details: number[], text: string}} Refused */

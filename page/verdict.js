@@ -8,9 +8,9 @@ import { counted, formOf, say } from "./say.js";
 /**
  * What a drill found: no fault, or that it was stopped, or that all quorums give another secret than the expected one, that none
  * gives it, that some don't, or that they give several secrets. With it how many quorums were tried, if not all were, the sentences that
- * say what was found, the papers that were tried, those of them that are in a right quorum, or, without one, belong together as a digest says, the fingerprint of the right secret as far as
- * it is known, whether a passphrase was typed, whether the secret was compared with what the owner noted, and is equal, and whether
- * something is wrong.
+ * say what was found, the papers that were tried, those of them that are in a right quorum, or, without one, belong together as a digest
+ * says, the fingerprint of the right secret as far as it is known, whether a passphrase was typed, whether the secret was compared with
+ * what the owner noted, and is equal, and whether something is wrong.
  *
  * @typedef {{result: Result, fingerprint: string, part: string, sentences: string[], names: string[], right: string[], hasPassphrase: boolean, isEqual: boolean, isWrong: boolean}} Verdict
  */

@@ -110,11 +110,7 @@ def check_blamed(page, see):
     """What isn't in doubt isn't blamed: a paper of which no word was found, one of another backup, and one that fits another, as its digest says."""
     papers = papers_of("2of3")
     begin(page, "damaged")
-    paste(page, " ".join(word[:4] for word in papers[0].split()))
-    page.push(say("damaged.write", name="0.0"), to=say("paper.title", name="0.0"))
-    page.push(say("paper.written"), to=say("back.title", name="0.0"))
-    paste(page, papers[0])
-    page.wait_title(say("damaged.check.title"))
+    write_anew(page, papers[0], " ".join(word[:4] for word in papers[0].split()))
     paste(page, changed(papers[1], exponent=3))
     page.wait_text(say("refused.23"))
     page.push(say("entry.empty"))
@@ -144,14 +140,16 @@ def check_untried(page, see):
     papers = papers_of("1/2of3,2of3")
     noted, wrong = fingerprint_of(papers[:2], ""), changed(papers[3], value=bytes(16))
     right, keep = say("damaged.right.one", names="1.0"), say("damaged.keep")
-    for line, others, fingerprint, title, wanted, unwanted in [
+    for line, others, fingerprint, title, wanted, unwanted, *read in [
         (wrong, papers[:2], noted, "check.done.left_out", [keep, say("verdict.papers.none", names="1.0")], [right]),
         (wrong, papers[4:5], noted, "check.done.some", [keep, say("damaged.suspect.one", names="1.0")], [right]),
         (papers[3], papers[4:5], None, "check.done.same", [keep], [right]),
         (papers[3], papers[4:5], noted, "check.done.good", [right], [keep]),
+        (papers[3], papers[4:5], None, "check.done.same", [keep], [right], papers[3]),
+        (papers[3], papers[4:5], noted, "check.done.good", [], [keep, right], papers[3]),
     ]:
         begin(page, "damaged")
-        write_anew(page, line)
+        write_anew(page, line, *read)
         take_all(page, others)
         page.wait_title(say("damaged.passphrase"))
         drill(page, None, fingerprint)

@@ -62,7 +62,7 @@ FAULTS = [
     ("a paper that was left out isn't cleared", "page/backups.js", "zero(...dropped, ...left,", "zero(...dropped,", of_page(agreement.check_memory)),
     ("a paper that was left out is forgotten", "page/backups.js", "if (error instanceof Refusal) this.leaveOut(", "if (false) this.leaveOut(", of_page(lambda page: astray.check_left_out(page, unseen))),
     ("a paper that no backup has is offered", "page/kind.js", "isPossible: share.groupIndex < share.groupCount", "isPossible: true", of_page(lambda page: astray.check_impossible(page, unseen))),
-    ("a good paper is blamed for a repaired one", "page/collect.js", "saidForeign(error, await this.#doubtful())", "saidForeign(error, [])", of_page(lambda page: astray.check_repaired(page, unseen))),
+    ("a good paper is blamed for a repaired one", "page/collect.js", "error instanceof Declined ? await this.#doubtful() : []", "[]", of_page(lambda page: astray.check_repaired(page, unseen))),
     ("a repaired paper is blamed for another backup", "page/backups.js", "this.#papers.lines(id).map((it) => this.#kind(it)).filter", "this.#all.map((it) => this.#kind(it)).filter", of_page(lambda page: astray.check_blamed(page, unseen))),
     ("a whole paper counts as repaired", "page/desk.js", 'line.includes(QUESTION_MARK) ? "repaired" : ""', '"repaired"', of_page(lambda page: astray.check_blamed(page, unseen))),
     ("a repaired paper is blamed for a mistyped passphrase", "page/verdict.js", "right.length ? right : tried.filter(isTogether)", "right", of_page(lambda page: astray.check_blamed(page, unseen))),

@@ -321,11 +321,11 @@ def type_damaged(page, line):
     page.type(line + " ")
 
 
-def write_anew(page, line):
-    """Types what can be read of a paper of which one word is open, writes it anew, and types it back."""
+def write_anew(page, line, read=None):
+    """Types what can be read of a paper, all words but one if nothing else is given, writes it anew, and types it back."""
     name = name_of(line)
     page.wait_title(say("damaged.title"))
-    paste(page, with_words(line, {6: "?"}))
+    paste(page, read or with_words(line, {6: "?"}))
     page.push(say("damaged.write", name=name), to=say("paper.title", name=name))
     page.push(say("paper.written"), to=say("back.title", name=name))
     paste(page, line)

@@ -586,10 +586,11 @@ class _Copies:
         for number, part in enumerate(parts):
             if number:
                 room[at - 1] = ord("\n")
-            # A view without bytes, or one with gaps, can't be cast.
-            given = part.cast("B") if part.nbytes and part.c_contiguous else part
-            room[at : at + part.nbytes] = given if part.nbytes else b""
-            at += part.nbytes + 1
+            # A view without bytes, or one with gaps, can't be cast. Python would copy gaps at once through memory that it doesn't clear.
+            for piece in [part] if part.c_contiguous else (part[it : it + 1] for it in range(len(part))):
+                room[at : at + piece.nbytes] = piece.cast("B") if piece.nbytes else b""
+                at += piece.nbytes
+            at += 1
         return copy, length
 
     def data(self, data: Data) -> Tuple[Any, int]:

@@ -1,6 +1,7 @@
 """Tests of what judges mnemonics and keeps them, and of the details of refusals by their names. The mnemonics are published vectors, or
 another program made them.
 """
+import array
 import copy
 import dataclasses
 import pathlib
@@ -60,7 +61,9 @@ class Judgements(unittest.TestCase):
 
     def test_buffers_with_gaps(self):
         mirrored = memoryview(FIVE[4].encode()[::-1])[::-1]
-        self.assertEqual(shamir.judge([mirrored], mirrored), shamir.judge([FIVE[4]], FIVE[4]))
+        doubled = memoryview(array.array("b", [sign for sign in FIVE[4].encode() for _ in range(2)]))[::2]
+        for line in [mirrored, doubled]:
+            self.assertEqual(shamir.judge([line], line), shamir.judge([FIVE[4]], FIVE[4]))
 
     def test_what_judge_refuses(self):
         for code, line, details, lines, mnemonic in [

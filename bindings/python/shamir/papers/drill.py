@@ -23,9 +23,9 @@ class Verdict:
     """What a drill found: 'good', 'stopped', or that all quorums give another secret than the expected one ('other'), that none gives
     it ('none'), that some don't ('some'), or that they give several secrets ('several'). With it the sentences that say so, the names of
     the papers that were tried, and of those that are in a right quorum, or, without one, belong together as a digest says, and whether a
-    passphrase was typed. `is_own` says that the
-    secret wasn't compared with what the owner noted, but with the one that was just backed up. `fingerprint` is that of the right
-    secret, as far as it is known. `part` says how many quorums were tried, if not all were, and `is_wrong` that one of these is wrong."""
+    passphrase was typed. `is_own` says that the secret wasn't compared with what the owner noted, but with the one that was just
+    backed up. `fingerprint` is that of the right secret, as far as it is known. `part` says how many quorums were tried, if not all
+    were, and `is_wrong` that one of these is wrong."""
 
     result: str
     sentences: List[str]

@@ -81,7 +81,7 @@ def _is_right(screen: Screen, paper: Paper, typed: Paper) -> bool:
     if is_same(paper, typed):
         return True
     screen.drop_typed()
-    screen.tell(say("back.foreign" if typed.id != paper.id or typed.name == paper.name else "back.other", name=paper.name, typed=typed.name), "bad")
+    screen.tell(say("back.foreign" if typed.opening != paper.opening or typed.name == paper.name else "back.other", name=paper.name, typed=typed.name), "bad")
     return False
 
 
