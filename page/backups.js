@@ -87,6 +87,7 @@ export class Backups {
   add(line) {
     try {
       const { again, status } = located(this.#engine, line, () => this.#papers.add(line));
+      this.#forget(line);
       return { kind: this.#kind(line), isNew: !again, status: shownStatus(status), backups: this.list };
     } catch (error) {
       if (error instanceof Refusal) this.leaveOut(line.slice());
@@ -95,18 +96,25 @@ export class Backups {
   }
 
   /**
-   * Returns the names of the papers of which words were found, of the backup that a paper says it is of. It says so only if it is sound.
+   * Returns the names of the papers that don't fit a sound one of their backup, if words of each of them were found.
    *
    * @param {Uint8Array} line
    */
   repairedBeside(line) {
     try {
       const { id } = kindOf(this.#engine, line);
-      return this.#papers.lines(id).map((it) => this.#kind(it)).filter(({ isRepaired }) => isRepaired).map(({ name }) => name);
+      const others = this.#papers.lines(id).filter((it) => beside(this.#engine, line, it) === "conflict").map((it) => this.#kind(it));
+      return others.every(({ isRepaired }) => isRepaired) ? others.map(({ name }) => name) : [];
     } catch (error) {
       if (error instanceof Refusal) return [];
       throw error;
     }
+  }
+
+  /** Whether a repaired paper isn't among the others any more. */
+  get isRepairedOut() {
+    const all = this.#all;
+    return this.#rest.repaired.some((line) => !all.some((it) => beside(this.#engine, line, it) === "same"));
   }
 
   /**
@@ -189,9 +197,20 @@ export class Backups {
    * @param {Uint8Array} line
    */
   leaveOut(line) {
+    if (!isBegun(line)) return zero(line);
+    this.#forget(line);
+    this.#rest.left.push(line);
+  }
+
+  /**
+   * Forgets what was begun of a paper, as it was typed once more.
+   *
+   * @param {Uint8Array} line
+   */
+  #forget(line) {
     const earlier = this.#rest.left.filter((it) => resembles(it, line));
-    if (isBegun(line)) this.#rest.left = [...this.#rest.left.filter((it) => !earlier.includes(it)), line];
-    zero(...(isBegun(line) ? earlier : [line]));
+    this.#rest.left = this.#rest.left.filter((it) => !earlier.includes(it));
+    zero(...earlier);
   }
 
   /**

@@ -97,7 +97,7 @@ export async function drillWithPassphrase(desk, status, kinds, { title, passphra
       fault = saidRefusal(verdict.refused);
       continue;
     }
-    const answer = await tellVerdict(verdict, noted, { status, kinds, left: await saidLeftOut(desk), hasDamaged });
+    const answer = await tellVerdict(verdict, noted, { status, kinds, left: await saidLeftOut(desk), hasDamaged, isOut: await desk.ask("isRepairedOut") });
     if (answer !== "again") return answer;
     fault = "";
   }
@@ -108,9 +108,10 @@ export async function drillWithPassphrase(desk, status, kinds, { title, passphra
  *
  * @param {Verdict} verdict
  * @param {string} noted
- * @param {{status: Status, kinds: Kind[], left: HTMLElement | null, hasDamaged: boolean}} papers `left` says which papers were left out
+ * @param {{status: Status, kinds: Kind[], left: HTMLElement | null, hasDamaged: boolean, isOut: boolean}} papers `left` says which papers were
+ *   left out, and `isOut` that a repaired paper was taken out
  */
-function tellVerdict(verdict, noted, { status, kinds, left, hasDamaged }) {
+function tellVerdict(verdict, noted, { status, kinds, left, hasDamaged, isOut }) {
   const { result, fingerprint, hasPassphrase, table } = verdict;
   const [isGood, isNoted] = [result === "good", noted !== ""];
   const namesOf = (/** @type {(kind: Kind) => boolean} */ isMeant) => kinds.filter(isMeant).map(({ name }) => name);
@@ -118,14 +119,16 @@ function tellVerdict(verdict, noted, { status, kinds, left, hasDamaged }) {
   const lone = namesOf((it) => it.isWritten && it.memberThreshold === 1);
   const found = resultOf(verdict, isNoted, { here: status.groups.flatMap(({ names }) => names), repaired, written, lone, isLeft: left !== null });
   const [tried, anew] = [found.tried, found.anew].map((them) => them.map(({ key, names, kind }) => paragraph(say(key, { names: names.join(", ") }), kind)));
+  // A damaged paper that was read in full has no words that were found.
+  const isShown = repaired.length > 0 || (isGood && isNoted && found.tried.length === 1);
+  const isKept = hasDamaged && (isOut || !isShown) && !found.anew.some(({ key }) => key === "damaged.keep");
   const again = ["other", "none"].includes(result) ? `${say(hasPassphrase ? "check.again" : "check.again.none")} ` : "";
   const told = [
     toldVerdict(verdict),
     ...tried,
     left,
     ...anew,
-    // A damaged paper that was read in full has no words that were found.
-    hasDamaged && repaired.length === 0 && !(isGood && isNoted) ? paragraph(say("damaged.keep"), "note") : null,
+    isKept ? paragraph(say("damaged.keep"), "note") : null,
     isGood ? null : paragraph(again + say(`check.${result}`)),
     ...(isGood && !isNoted && fingerprint ? [paragraph(say("noted.first")), element("p", { class: "fingerprint" }, fingerprint)] : []),
     table,

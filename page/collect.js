@@ -4,7 +4,7 @@ import { BACK, button, element, paragraph } from "./dom.js";
 import { leaveEntry, PaperEntry, USUAL_WORDS } from "./paper_entry.js";
 import { picture, saidWhole } from "./picture.js";
 import { saidForeign, saidRepaired, wordsToLookAt } from "./refusals.js";
-import { say } from "./say.js";
+import { counted, say } from "./say.js";
 import { ask, dropQuestion, show } from "./screen.js";
 
 /** @typedef {import("./client.js").Desk} Desk */
@@ -138,7 +138,7 @@ class Collection {
     }
   }
 
-  /** Returns the names of the papers of which words were found, of the backup of the paper in the fields. */
+  /** Returns the names of the papers that don't fit the one in the fields, if words of each of them were found. */
   #doubtful() {
     const line = this.#entry.line();
     return this.#desk.ask("doubtful", { line }, [line.buffer]);
@@ -157,18 +157,19 @@ class Collection {
    * @param {Kind} kind
    * @param {boolean} isNew
    */
-  #saidTaken({ name, begin }, isNew) {
+  #saidTaken({ name, begin, groupCount, isPossible }, isNew) {
+    if (!isPossible) return say("what.impossible", { name, groups: counted(groupCount, "group") });
     if (!isNew) return say("collect.repeated", { name });
     return this.#isApart ? say("collect.taken.of", { name, begin }) : say("collect.taken", { name });
   }
 
   /**
-   * Says that a paper is the first one of another backup. If words of each paper of a backup were found, most likely some are wrong.
+   * Says that a paper is the first one of another backup. If words of the only paper of a backup were found, most likely some are wrong.
    *
    * @param {Kind} kind
    */
   #saidOther({ name, begin }) {
-    const doubtful = this.#backups.filter(({ kinds }) => kinds.every((it) => it.isRepaired));
+    const doubtful = this.#backups.filter(({ kinds }) => kinds.length === 1 && kinds[0].isRepaired);
     const repaired = doubtful.flatMap(({ kinds }) => kinds.map((it) => it.name));
     return `${say("collect.taken.apart", { name, begin })} ${repaired.length ? saidRepaired(repaired) : ""}`.trim();
   }

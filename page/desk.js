@@ -81,7 +81,7 @@ function add({ line }) {
 }
 
 /**
- * Returns the names of the papers of which words were found, of the backup that a paper says it is of.
+ * Returns the names of the papers that don't fit one that was refused, if words of each of them were found.
  *
  * @param {{line: Uint8Array}} given
  */
@@ -330,6 +330,7 @@ const CALLS = {
   describe,
   add,
   doubtful,
+  isRepairedOut: () => backups.isRepairedOut,
   leaveOut: ({ line }) => backups.leaveOut(line),
   leftOut: () => backups.leftOut,
   backups: () => backups.list,

@@ -40,7 +40,7 @@ function form(key, names, kind) {
 /**
  * Returns what a drill shows of papers. Only the noted fingerprint shows that papers are right.
  *
- * @param {Pick<Verdict, "result" | "names" | "right" | "hasPassphrase">} verdict
+ * @param {Pick<Verdict, "result" | "names" | "right" | "hasPassphrase" | "part">} verdict
  * @param {boolean} isNoted whether a fingerprint was noted
  * @param {Papers} papers
  */
@@ -78,14 +78,15 @@ function titleOf({ result, hasPassphrase }, isNoted, isUntried, isWritten) {
  * Says what a drill shows of repaired papers. Only a quorum that has one, and that gives the noted fingerprint, shows that its words are
  * right.
  *
- * @param {Pick<Verdict, "result" | "names" | "right">} verdict
+ * @param {Pick<Verdict, "result" | "names" | "right" | "part">} verdict
  * @param {boolean} isNoted
  * @param {string[]} repaired
  */
-function ofRepaired({ result, names, right }, isNoted, repaired) {
+function ofRepaired({ result, names, right, part }, isNoted, repaired) {
   const tried = repaired.filter((name) => names.includes(name));
   const proved = result === "good" && isNoted ? tried : [];
-  const suspect = ["none", "some"].includes(result) ? tried.filter((name) => !right.includes(name)) : [];
+  // A quorum that wasn't tried may be right.
+  const suspect = !part && ["none", "some"].includes(result) ? tried.filter((name) => !right.includes(name)) : [];
   const kept = /** @type {Told[]} */ (proved.length < repaired.length ? [{ key: "damaged.keep", names: [], kind: "note" }] : []);
   return [...form("damaged.right", proved, "good"), ...form("damaged.suspect", suspect, "bad"), ...kept];
 }

@@ -117,12 +117,13 @@ def check_wrong():
         owner.collect([*old[:2], changed(old[2], value=bytes(16))])
         change(owner, "1of1")
         owner.passphrase(PASSPHRASE, noted)
-        owner.wait(AGAIN)
+        owner.wait(say("screen.end"))
         for key in ("change.old.title", "change.unproved", "change.old.wrong"):
             owner.expect(say(key))
         owner.expect(say("verdict.suspects.one", names="0.2"))
         owner.lacks(say("change.done"))
-        owner.finish(AGAIN, "closed.changing")
+        owner.lacks("If the result stays the same")
+        owner.finish(say("screen.end"), "closed.changing")
 
 
 def check_mark(owner):

@@ -340,7 +340,7 @@ def check_written_again():
                 owner.answer(say("replace.choose"), "d")
                 owner.passphrase(PASSPHRASE, FINGERPRINT)
                 owner.wait(say("next.good"))
-            leave(owner, "\x03", 130, "ended.replaced", not is_drilled)
+            leave(owner, "\x03", 130, "ended" if is_drilled else "ended.replaced", not is_drilled)
     check_held_drill()
 
 

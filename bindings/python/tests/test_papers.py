@@ -379,8 +379,9 @@ class DeskTests(unittest.TestCase):
         for left, line in [(1, FIVE[1]), (1, FIVE[2]), (0, FIVE[0])]:
             desk.add(paper_of(line))
             self.assertEqual(len(desk.left_out), left)
+        # What was typed wrongly before isn't counted again if the paper is taken out.
         desk.drop(desk.papers[-1])
-        self.assertEqual(len(desk.left_out), 1)
+        self.assertEqual(len(desk.left_out), 0)
         desk.clear()
         self.assertEqual(len(desk.left_out), 0)
 

@@ -21,7 +21,7 @@ class Keys:
     """A terminal whose keys are known."""
 
     def __init__(self, keys, is_plain=False):
-        self.keys, self.is_plain, self.shown = list(keys), is_plain, ""
+        self.keys, self.is_plain, self.shown, self.place = list(keys), is_plain, "", 0
 
     def key(self):
         return self.keys.pop(0)
@@ -31,6 +31,9 @@ class Keys:
 
     def write(self, text):
         self.shown += text
+
+    def write_over(self, place, moves, text):
+        self.shown += moves + text
 
     @property
     def size(self):

@@ -48,8 +48,8 @@ DESCRIPTION = "Makes paper backups of a wallet's secret (SLIP-0039), checks them
 
 
 def readable(word: str) -> str:
-    """Returns a word of the command as a text. Bytes that aren't UTF-8 become a sign that no plan has."""
-    return os.fsencode(word).decode("utf-8", "replace")
+    """Returns a word of the command as a text. What isn't UTF-8, or isn't printed, becomes a sign that no plan has."""
+    return "".join(it if it.isprintable() else "\ufffd" for it in os.fsencode(word).decode("utf-8", "replace"))
 
 
 def words_of_command() -> argparse.ArgumentParser:

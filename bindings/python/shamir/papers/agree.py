@@ -55,5 +55,8 @@ def _tries_again(screen: Screen, verdict: Verdict) -> bool:
     """Says why nothing shows that old and new papers agree, and returns whether the owner tries again."""
     screen.tell(say("change.unproved"), "strong")
     tell_verdict(screen, verdict, "")
+    # The passphrase changes nothing about papers that don't agree.
+    if verdict.result in ("some", "several"):
+        return screen.choose(say("screen.end"), {"e": False})
     screen.tell(say("change.failed.then"))
     return screen.choose(say("make.failed.again"), {"t": True, "e": False})

@@ -71,7 +71,7 @@ def _tell(screen: Screen, desk: Desk, verdict: Verdict, noted: str) -> str:
         tell_damaged(screen, desk)
     if _is_proved(desk, verdict, result):
         screen.hold("")
-        desk.written = desk.written and "replaced"
+        desk.written = ""
     return ask_next(screen, NEXT[result])
 
 
@@ -80,7 +80,8 @@ def _tell_repaired(screen: Screen, desk: Desk, verdict: Verdict, result: str) ->
     repaired = [paper for paper in desk.papers if paper.is_repaired]
     tried = [paper for paper in repaired if paper.name in verdict.names]
     right = tried if result == "good" else []
-    if result in ("none", "some"):
+    # A quorum that wasn't tried may be right.
+    if result in ("none", "some") and not verdict.part:
         _tell_names(screen, "damaged.suspect", [paper for paper in tried if paper.name not in verdict.right], "strong")
     _tell_names(screen, "damaged.right", [paper for paper in right if paper.is_rewritten], "good")
     if not _is_proved(desk, verdict, result) and (repaired or desk.written == "repaired"):

@@ -106,12 +106,15 @@ def _take(screen: Screen, desk: Desk, title: str, paper: Paper, task: str) -> No
         screen.tell(said_row(desk, paper), "bad")
     else:
         screen.tell(say("collect.repeated", name=label(desk, paper)))
+    if not paper.is_possible:
+        screen.tell(say("what.impossible", name=paper.name, groups=counted(paper.group_count, "group")), "bad")
     show_typed(screen, desk, task)
 
 
 def _refuse(screen: Screen, desk: Desk, paper: Paper, why: str, doubtful: List[str]) -> None:
     """Says why a paper isn't taken, and how to take one out that is here if that may be wrong."""
-    desk.leave_out(paper.words)
+    # A word that was found may be wrong, so such a paper isn't sound.
+    desk.leave_out([*paper.words[:-1], "?"] if paper.is_repaired else paper.words)
     screen.fault(why)
     if doubtful or not paper.is_repaired:
         screen.tell(say("entry.drop", sign=DROP, name=(doubtful or [desk.backups[paper.id][-1].name])[-1]))
@@ -122,6 +125,8 @@ def _drop(screen: Screen, desk: Desk, name: str, task: str) -> None:
     if paper is not None:
         told = say("collect.dropped", name=label(desk, paper))
         desk.drop(paper)
+        if not desk.typed and not desk.written:
+            screen.hold("")
         screen.tell(told)
     elif not desk.named(name):
         screen.tell(say("entry.drop.none", name=name), "bad")

@@ -163,12 +163,15 @@ class Desk:
 
     @property
     def unsure(self) -> List[Paper]:
-        """The papers of each backup of which none was read in full. So a word that was found may make it another backup."""
-        return [it for papers in self.backups.values() if all(one.is_repaired for one in papers) for it in papers]
+        """The only paper of each backup that has but one, if it wasn't read in full. A word that was found may make it another backup."""
+        return [paper for [paper, *others] in self.backups.values() if paper.is_repaired and not others]
 
     def doubtful(self, paper: Paper) -> List[Paper]:
-        """Returns the papers here of which words were found, and that may be wrong if a paper doesn't fit them."""
-        return self.unsure if self.is_apart(paper) else [it for it in self.backups.get(paper.id, []) if it.is_repaired]
+        """Returns the papers here that a paper doesn't fit, if words of each of them were found: they may be wrong."""
+        if self.is_apart(paper):
+            return self.unsure
+        others = [it for it in self.backups.get(paper.id, []) if not _fit(it, paper)]
+        return others if all(it.is_repaired for it in others) else []
 
     def add(self, paper: Paper) -> bool:
         """Takes a paper, or raises the library's refusal of one that doesn't belong to the others of its backup. Returns whether it is a new
@@ -178,6 +181,7 @@ class Desk:
         if paper.is_rewritten:
             self._anew = [*self._anew, paper]
         self._id = paper.id
+        self._left = [it for it in self._left if not resembles(it, paper.words)]
         if found.again:
             self._kept = [_read_again(it, paper) if (it.id, it.name) == (paper.id, paper.name) else it for it in self._kept]
             return False
@@ -255,6 +259,15 @@ class Desk:
         """Tries the one quorum that these papers are."""
         [outcome] = self._outcomes([paper.line for paper in self.papers if paper.name in names], expect)
         return outcome
+
+
+def _fit(one: Paper, other: Paper) -> bool:
+    """Whether two papers of one identifier can be of one backup."""
+    try:
+        shamir.judge([one.line], other.line)
+    except shamir.Refusal:
+        return False
+    return True
 
 
 def _read_again(here: Paper, paper: Paper) -> Paper:

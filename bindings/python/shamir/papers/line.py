@@ -55,6 +55,8 @@ class Line:
         self._complete, self._is_hidden = complete, is_hidden
         self._typed = bytearray(begun)
         self._is_asked = False
+        # The place of the line among what the terminal shows.
+        self._place = 0
         # Whether more was typed than a line can have.
         self.is_cut = False
 
@@ -62,6 +64,7 @@ class Line:
         """Returns what is typed, without its end. After Ended, it may be called again, and goes on."""
         if not self._is_asked:
             self._is_asked = True
+            self._place = self._terminal.place
             self._terminal.write(self._prompt + ("" if self._is_hidden else _shown(self._typed)))
         while True:
             key = self._terminal.key()
@@ -121,7 +124,7 @@ class Line:
             self._terminal.write("\b \b" * (before - len(self._prompt) - len(_shown(kept))))
             return
         up = (before - 1) // self._terminal.size.columns
-        self._terminal.write("\r" + (f"\x1b[{up}A" if up else "") + "\x1b[J" + self._prompt + _shown(kept))
+        self._terminal.write_over(self._place, "\r" + (f"\x1b[{up}A" if up else "") + "\x1b[J", self._prompt + _shown(kept))
 
     def _letters(self) -> str:
         """Returns the letters of the word that is being typed."""
@@ -152,7 +155,9 @@ class Line:
                 self._add(found[0][len(letters) : count].encode())
             else:
                 more = " .." if len(found) > SHOWN_MAX else ""
-                self._terminal.write("\n" + " ".join(found[:SHOWN_MAX]) + more + "\n" + self._prompt + _shown(self._typed))
+                self._terminal.write("\n" + " ".join(found[:SHOWN_MAX]) + more + "\n")
+                self._place = self._terminal.place
+                self._terminal.write(self._prompt + _shown(self._typed))
 
 
 def _shown(data: bytes) -> str:

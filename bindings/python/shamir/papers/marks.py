@@ -36,7 +36,8 @@ def judged(text: str, counting: Counting) -> Tuple[Optional[Paper], str]:
     """Returns the paper that a text is, or why it is none that is sound."""
     marks, misplaced = placed([], parts_of(text))
     if misplaced:
-        return None, say("paste.gap", number=misplaced[0].number)
+        first = misplaced[0]
+        return None, say("paste.gap" if first.is_twice else "entry.beyond", number=first.number, words=", ".join(first.words))
     words: List[str] = []
     for number, mark in enumerate(marks, 1):
         word = read(mark) if mark else None

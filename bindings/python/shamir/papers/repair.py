@@ -29,6 +29,7 @@ def read_damaged(screen: Screen, desk: Desk) -> None:
 def _ask_damaged(screen: Screen) -> Optional[Paper]:
     """Lets the owner type what can be read. Returns the paper to be written anew, or None to end."""
     while True:
+        screen.hold("")
         screen.clear(say("damaged.title"))
         screen.tell(say("damaged.intro"))
         screen.item(say("damaged.letters"))

@@ -102,4 +102,4 @@ def _drill(screen: Screen, desk: Desk) -> Optional[str]:
     if desk.status().enough:
         return "" if drill_with_passphrase(screen, desk, say("replace.drill")) == "p" else None
     is_written = any(it.is_rewritten for it in desk.papers)
-    return ask_for_more(screen, desk, say("replace.done" if is_written else "replace.few"), say("replace.too_few"))
+    return ask_for_more(screen, desk, say("replace.done" if is_written and desk.written else "replace.few"), say("replace.too_few"))

@@ -186,8 +186,9 @@ class Terminal:
         self.clear()
         yield
         self.clear()
+        self._written = written
         for text in written:
-            self.write(text)
+            self._put(text)
         self._note_size(size)
 
     def _note_size(self, before: os.terminal_size) -> None:
@@ -224,6 +225,18 @@ class Terminal:
     def write(self, text: str) -> None:
         self._written.append(text)
         self._put(text)
+
+    @property
+    def place(self) -> int:
+        """The place of the next text among those that were written."""
+        return len(self._written)
+
+    def write_over(self, place: int, moves: str, text: str) -> None:
+        """Writes a text over those from a place on, to the first of which `moves` lead. At another size, or after a stop, only the new text is
+        written again."""
+        del self._written[place:]
+        self._written.append(text)
+        self._put(moves + text)
 
     def clear(self) -> None:
         """Clears the screen. A plain terminal gets empty lines."""
