@@ -63,6 +63,7 @@ class Typed:
 
     def __init__(self, columns, keys):
         self.emulator, self.keys, self.size = Emulator(columns, 24), list(keys), os.terminal_size((columns, 24))
+        self.written = []
 
     def key(self):
         return self.keys.pop(0)
@@ -70,21 +71,37 @@ class Typed:
     def is_typed(self, seconds):
         return bool(self.keys)
 
+    @property
+    def place(self):
+        return len(self.written)
+
     def write(self, text):
-        self.emulator.feed(text.replace("\n", "\r\n").encode())
+        self.written.append(text)
+        feed(self.emulator, text)
+
+    def write_over(self, place, moves, text):
+        self.written[place:] = [text]
+        feed(self.emulator, moves + text)
+
+
+def feed(emulator, text):
+    emulator.feed(text.replace("\n", "\r\n").encode())
 
 
 def check_lines():
-    """Types letters and takes some back, over the ends of rows: the screen shows what is left, and nothing else."""
+    """Types letters and takes some back, over the ends of rows: the screen shows what is left, and nothing else, also at another size."""
     chance = random.Random(SEED)
     for _ in range(1000):
         columns = chance.choice([20, 21, 40])
         keys = b"".join(chance.choice([b"a", b"b", b"\x7f", b"\x7f", b" ", b"word", b"\x17", b"\x15", b"abcdefghijkl", b"\x1b[D"]) for _ in range(chance.randrange(60)))
         terminal = Typed(columns, keys + b"\n")
         whole = "Paper 1: " + Line(terminal, "Paper 1: ").read().decode()
-        rows = [whole[at : at + columns].rstrip() for at in range(0, len(whole), columns)]
-        if terminal.emulator.shown.text().rstrip().split("\n") != "\n".join(rows).rstrip().split("\n"):
-            raise Failed(f"after {keys} on {columns} columns, the screen shows {terminal.emulator.shown.text().rstrip()!r}")
+        again = Emulator(100, 24)
+        feed(again, "".join(terminal.written))
+        for emulator, width in [(terminal.emulator, columns), (again, 100)]:
+            rows = [whole[at : at + width].rstrip() for at in range(0, len(whole), width)]
+            if emulator.shown.text().rstrip().split("\n") != "\n".join(rows).rstrip().split("\n"):
+                raise Failed(f"after {keys} on {columns} columns, {width} columns show {emulator.shown.text().rstrip()!r}")
 
 
 def check(see):
