@@ -12,9 +12,10 @@ import { isBegun, resembles } from "./left_out.js";
 /** @typedef {import("./desk.js").LeftOut} LeftOut */
 /**
  * What is held: all papers, the identifier of the backup that the task goes on with, if one was chosen, the paper that was put away last,
- * those that were begun and not taken, those of which words were found, and those that were written again from others.
+ * those that were begun and not taken, the copies of damaged ones of which words were found, and of those that were read in full, and those
+ * that were written again from others.
  *
- * @typedef {{papers: Uint8Array[], chosen: number | null, dropped: Uint8Array[], left: Uint8Array[], repaired: Uint8Array[], written: Uint8Array[]}} Kept
+ * @typedef {{papers: Uint8Array[], chosen: number | null, dropped: Uint8Array[], left: Uint8Array[], repaired: Uint8Array[], read: Uint8Array[], written: Uint8Array[]}} Kept
  */
 
 /**
@@ -38,7 +39,7 @@ export class Backups {
   #engine;
   #papers;
   /** @type {Omit<Kept, "papers">} */
-  #rest = { chosen: null, dropped: [], left: [], repaired: [], written: [] };
+  #rest = { chosen: null, dropped: [], left: [], repaired: [], read: [], written: [] };
 
   /** @param {Engine} engine */
   constructor(engine) {
@@ -76,7 +77,8 @@ export class Backups {
    */
   #kind(line) {
     const isAmong = (/** @type {Uint8Array[]} */ lines) => lines.some((it) => beside(this.#engine, line, it) === "same");
-    return { ...kindOf(this.#engine, line), isRepaired: isAmong(this.#rest.repaired), isWritten: isAmong(this.#rest.written) };
+    const [isRepaired, isRead, isWritten] = [this.#rest.repaired, this.#rest.read, this.#rest.written].map(isAmong);
+    return { ...kindOf(this.#engine, line), isRepaired, isCopy: isRepaired || isRead, isWritten };
   }
 
   /**
@@ -111,20 +113,41 @@ export class Backups {
     }
   }
 
-  /** Whether a repaired paper isn't among the others any more. */
-  get isRepairedOut() {
-    const all = this.#all;
-    return this.#rest.repaired.some((line) => !all.some((it) => beside(this.#engine, line, it) === "same"));
+  /** Whether a copy of a damaged paper isn't among the papers of the backup that was chosen. */
+  get isCopyOut() {
+    const own = this.lines;
+    return [...this.#rest.repaired, ...this.#rest.read].some((line) => !own.some((it) => beside(this.#engine, line, it) === "same"));
+  }
+
+  /** Forgets which papers are copies of damaged ones, as a drill has shown that they are right. */
+  prove() {
+    zero(...this.#rest.repaired, ...this.#rest.read);
+    [this.#rest.repaired, this.#rest.read] = [[], []];
+  }
+
+  /**
+   * Forgets an earlier copy of the same damaged paper.
+   *
+   * @param {Uint8Array} line
+   */
+  #replace(line) {
+    const isSame = (/** @type {Kind} */ one, /** @type {Kind} */ other) => one.id === other.id && one.name === other.name;
+    const kind = kindOf(this.#engine, line);
+    const earlier = [...this.#rest.repaired, ...this.#rest.read].filter((it) => resembles(it, line) || isSame(kindOf(this.#engine, it), kind));
+    const rest = (/** @type {Uint8Array[]} */ lines) => lines.filter((it) => !earlier.includes(it));
+    [this.#rest.repaired, this.#rest.read] = [rest(this.#rest.repaired), rest(this.#rest.read)];
+    zero(...earlier);
   }
 
   /**
    * Takes a paper that was typed back as it was shown. `how` says whether words of it were found, or it was written again from others.
    *
    * @param {Uint8Array} line
-   * @param {"repaired" | "written" | ""} how
+   * @param {import("./desk.js").How} how
    */
   addShown(line, how) {
     this.#papers.add(line);
+    if (how === "repaired" || how === "read") this.#replace(line);
     if (how) this.#rest[how].push(line.slice());
   }
 
@@ -253,9 +276,9 @@ export class Backups {
 
   /** Clears all, and forgets it. */
   clear() {
-    const { dropped, left, repaired, written } = this.#rest;
-    zero(...dropped, ...left, ...repaired, ...written);
+    const { dropped, left, repaired, read, written } = this.#rest;
+    zero(...dropped, ...left, ...repaired, ...read, ...written);
     this.#papers.clear();
-    this.#rest = { chosen: null, dropped: [], left: [], repaired: [], written: [] };
+    this.#rest = { chosen: null, dropped: [], left: [], repaired: [], read: [], written: [] };
   }
 }

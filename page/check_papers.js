@@ -97,7 +97,10 @@ export async function drillWithPassphrase(desk, status, kinds, { title, passphra
       fault = saidRefusal(verdict.refused);
       continue;
     }
-    const answer = await tellVerdict(verdict, noted, { status, kinds, left: await saidLeftOut(desk), hasDamaged, isOut: await desk.ask("isRepairedOut") });
+    // Only a drill that has all copies of damaged papers, and that gives the noted fingerprint, shows that they are right.
+    const isShown = verdict.isEqual && !(await desk.ask("isCopyOut")) && kinds.every(({ isCopy, name }) => !isCopy || verdict.names.includes(name));
+    if (isShown) await desk.ask("prove");
+    const answer = await tellVerdict(verdict, noted, { status, kinds, left: await saidLeftOut(desk), isKept: hasDamaged && !isShown });
     if (answer !== "again") return answer;
     fault = "";
   }
@@ -108,10 +111,10 @@ export async function drillWithPassphrase(desk, status, kinds, { title, passphra
  *
  * @param {Verdict} verdict
  * @param {string} noted
- * @param {{status: Status, kinds: Kind[], left: HTMLElement | null, hasDamaged: boolean, isOut: boolean}} papers `left` says which papers were
- *   left out, and `isOut` that a repaired paper was taken out
+ * @param {{status: Status, kinds: Kind[], left: HTMLElement | null, isKept: boolean}} papers `left` says which papers were left out, and
+ *   `isKept` that a damaged paper is to be kept
  */
-function tellVerdict(verdict, noted, { status, kinds, left, hasDamaged, isOut }) {
+function tellVerdict(verdict, noted, { status, kinds, left, isKept }) {
   const { result, fingerprint, hasPassphrase, table } = verdict;
   const [isGood, isNoted] = [result === "good", noted !== ""];
   const namesOf = (/** @type {(kind: Kind) => boolean} */ isMeant) => kinds.filter(isMeant).map(({ name }) => name);
@@ -119,16 +122,13 @@ function tellVerdict(verdict, noted, { status, kinds, left, hasDamaged, isOut })
   const lone = namesOf((it) => it.isWritten && it.memberThreshold === 1);
   const found = resultOf(verdict, isNoted, { here: status.groups.flatMap(({ names }) => names), repaired, written, lone, isLeft: left !== null });
   const [tried, anew] = [found.tried, found.anew].map((them) => them.map(({ key, names, kind }) => paragraph(say(key, { names: names.join(", ") }), kind)));
-  // A damaged paper that was read in full has no words that were found.
-  const isShown = repaired.length > 0 || (isGood && isNoted && found.tried.length === 1);
-  const isKept = hasDamaged && (isOut || !isShown) && !found.anew.some(({ key }) => key === "damaged.keep");
   const again = ["other", "none"].includes(result) ? `${say(hasPassphrase ? "check.again" : "check.again.none")} ` : "";
   const told = [
     toldVerdict(verdict),
     ...tried,
     left,
     ...anew,
-    isKept ? paragraph(say("damaged.keep"), "note") : null,
+    isKept && !found.anew.some(({ key }) => key === "damaged.keep") ? paragraph(say("damaged.keep"), "note") : null,
     isGood ? null : paragraph(again + say(`check.${result}`)),
     ...(isGood && !isNoted && fingerprint ? [paragraph(say("noted.first")), element("p", { class: "fingerprint" }, fingerprint)] : []),
     table,

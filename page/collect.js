@@ -168,7 +168,8 @@ class Collection {
    *
    * @param {Kind} kind
    */
-  #saidOther({ name, begin }) {
+  #saidOther({ name, begin, groupCount, isPossible }) {
+    if (!isPossible) return say("what.impossible", { name, groups: counted(groupCount, "group") });
     const doubtful = this.#backups.filter(({ kinds }) => kinds.length === 1 && kinds[0].isRepaired);
     const repaired = doubtful.flatMap(({ kinds }) => kinds.map((it) => it.name));
     return `${say("collect.taken.apart", { name, begin })} ${repaired.length ? saidRepaired(repaired) : ""}`.trim();

@@ -16,11 +16,11 @@ import { selfTest } from "./self_test.js";
 /** @typedef {{names: string[], fingerprint: string | null, expected: boolean | null, mismatch: number | null}} Tried */
 /** @typedef {{groupCount: number, groupThreshold: number, memberThreshold: number}} Counts */
 /** @typedef {{id: number, secretBytes: number, exponent: number, extendable: boolean}} Parameters */
-/** @typedef {{isPossible: boolean, isRepaired: boolean, isWritten: boolean}} Found whether a backup can have a paper, and whether words of it were found, or it was written again from others */
+/** @typedef {{isPossible: boolean, isRepaired: boolean, isCopy: boolean, isWritten: boolean}} Found whether a backup can have a paper, whether words of it were found, whether it is a copy of a damaged one, and whether it was written again from others */
 /** @typedef {Counts & Parameters & Found & {name: string, words: number, begin: string}} Kind what a paper is. `begin` is its first words */
 /** @typedef {{id: number, begin: string, kinds: Kind[], status: Status}} Backup the papers of a backup, all of which begin with the same words */
 /** @typedef {{unsound: number, names: string[], apart: {begin: string, names: string[]}[]}} LeftOut */
-/** @typedef {"" | "repaired" | "written"} How how the papers that are shown were made: as new ones or of words that were all read, by words that were found, or from others */
+/** @typedef {"" | "repaired" | "read" | "written"} How how the papers that are shown were made: as new ones, of a damaged one by words that were found or all read, or from others */
 /** @typedef {{old: Uint8Array[], shown: Uint8Array[], how: How, passphrase: Uint8Array, secret: Uint8Array, fingerprint: string}} Own */
 /** @typedef {Own & {backups: import("./backups.js").Kept}} Held */
 /** @typedef {{code: number, details: number[], text: string}} Refused */
@@ -201,7 +201,7 @@ function repair({ line }) {
   zero(...held.shown);
   held.shown = [];
   // Without a mark, no word is found.
-  held.how = line.includes(QUESTION_MARK) ? "repaired" : "";
+  held.how = line.includes(QUESTION_MARK) ? "repaired" : "read";
   try {
     held.shown = engine.repairBytes(line);
     return held.shown.map((line) => ({ ...kindOf(engine, line), isFitting: backups.fits(line) }));
@@ -330,7 +330,8 @@ const CALLS = {
   describe,
   add,
   doubtful,
-  isRepairedOut: () => backups.isRepairedOut,
+  isCopyOut: () => backups.isCopyOut,
+  prove: () => backups.prove(),
   leaveOut: ({ line }) => backups.leaveOut(line),
   leftOut: () => backups.leftOut,
   backups: () => backups.list,

@@ -97,7 +97,7 @@ function tellFailed(verdict, made) {
   const which = !made.hasPassphrase ? "proof.passphrase.without" : hasPassphrase ? "proof.passphrase" : "proof.passphrase.none";
   const then = made.hasPassphrase ? "proof.passphrase.then" : "proof.passphrase.without.then";
   const [why, next, again] =
-    verdict.isWrong && ["other", "stopped"].includes(result)
+    verdict.isOther
       ? [[say(which)], say(then), say("proof.again")]
       : [sentences, say(result === "stopped" ? "make.unproved" : "make.failed"), result === "stopped" ? say("make.again") : ""];
   const ways = again ? [{ key: /** @type {const} */ ("again"), label: again, kind: "primary" }] : [];

@@ -646,7 +646,7 @@ export const TEXTS = {
   "refused.24": "This paper or an earlier one is of another backup, misread or forged: the number of groups that are needed differs.",
   "refused.25": "This paper or an earlier one is of another backup, misread or forged: the number of groups differs.",
   "refused.26": "This paper or an earlier one is of another backup, misread or forged: the length of the secret differs.",
-  "refused.27": "This paper or an earlier one of group {first} is of another backup, misread or forged: the number of papers that the group needs differs. If the earlier one was written again here, your answer was wrong: mark that copy.",
+  "refused.27": "This paper or an earlier one of group {first} is of another backup, misread or forged: the number of papers that the group needs differs. If you said here how many it needs, that answer was wrong: mark the copy that was written again.",
   "refused.28": "A different paper {first}.{second} was typed before. One of them is of another backup, misread or forged. Try each without the other.",
   "refused.repaired.one": "These papers can't be of one backup. Most likely paper {names} is wrong, of which words were found and not read. Take it out, and look at the damaged paper again.",
   "refused.repaired.many": "These papers can't be of one backup. Most likely one of the papers {names} is wrong, of which words were found and not read. Take it out, and look at the damaged paper again.",

@@ -10,9 +10,9 @@ import { counted, formOf, say } from "./say.js";
  * gives it, that some don't, or that they give several secrets. With it how many quorums were tried, if not all were, the sentences that
  * say what was found, the papers that were tried, those of them that are in a right quorum, or, without one, belong together as a digest
  * says, the fingerprint of the right secret as far as it is known, whether a passphrase was typed, whether the secret was compared with
- * what the owner noted, and is equal, and whether something is wrong.
+ * what the owner noted, and is equal, whether something is wrong, and whether all quorums that were tried give one other secret.
  *
- * @typedef {{result: Result, fingerprint: string, part: string, sentences: string[], names: string[], right: string[], hasPassphrase: boolean, isEqual: boolean, isWrong: boolean}} Verdict
+ * @typedef {{result: Result, fingerprint: string, part: string, sentences: string[], names: string[], right: string[], hasPassphrase: boolean, isEqual: boolean, isWrong: boolean, isOther: boolean}} Verdict
  */
 /**
  * What a verdict depends on beside the outcomes: the fingerprint that is expected, or none; whether it is that of the secret that was just
@@ -106,6 +106,7 @@ export function verdictOf(tried, total, asked) {
     hasPassphrase,
     isEqual: result === "good" && !isStopped && noted !== "" && !isOwn,
     isWrong: result !== "good" && tried.length > 0,
+    isOther: result === "other",
   };
 }
 

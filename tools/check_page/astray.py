@@ -163,6 +163,16 @@ def check_untried(page, see):
             page.lacks(text)
         see(f"what a drill shows of a repaired paper {title}")
         end(page)
+    begin(page, "damaged")
+    write_anew(page, papers[3], papers[3])
+    take(page, papers[:2])
+    page.push(say("collect.drop", name="1.0"))
+    page.push(say("collect.end"))
+    drill(page, None, noted)
+    page.wait_title(say("check.done.good"))
+    page.wait_text(keep)
+    see("a copy that was taken out")
+    end(page)
 
 
 def check_lost(page, see):
@@ -316,6 +326,17 @@ def check_several_repaired(page, see):
         for text in texts:
             page.wait_text(text)
         see(f"what a drill shows of several repaired papers {title}")
+        if third == wrong:
+            # A right copy takes the place of the wrong one.
+            page.push(say("collect.back"), to=say("damaged.check.title"))
+            page.push(say("collect.drop", name="0.2"))
+            page.push(say("damaged.another"))
+            write_anew(page, papers[2])
+            page.push(say("collect.end"))
+            drill(page, None, noted)
+            page.wait_title(say("check.done.good"))
+            page.wait_text(say("damaged.right.many", names="0.1, 0.2"))
+            page.lacks(say("damaged.keep"))
         end(page)
 
 

@@ -64,7 +64,7 @@ FAULTS = [
     ("a paper that no backup has is offered", "page/kind.js", "isPossible: share.groupIndex < share.groupCount", "isPossible: true", of_page(lambda page: astray.check_impossible(page, unseen))),
     ("a good paper is blamed for a repaired one", "page/collect.js", "error instanceof Declined ? await this.#doubtful() : []", "[]", of_page(lambda page: astray.check_repaired(page, unseen))),
     ("a repaired paper is blamed beside a read one", "page/backups.js", "others.every(({ isRepaired }) => isRepaired) ? others", "true ? others.filter(({ isRepaired }) => isRepaired)", of_page(lambda page: astray.check_blamed(page, unseen))),
-    ("a whole paper counts as repaired", "page/desk.js", 'line.includes(QUESTION_MARK) ? "repaired" : ""', '"repaired"', of_page(lambda page: astray.check_blamed(page, unseen))),
+    ("a whole paper counts as repaired", "page/desk.js", 'line.includes(QUESTION_MARK) ? "repaired" : "read"', '"repaired"', of_page(lambda page: astray.check_blamed(page, unseen))),
     ("a repaired paper is blamed for a mistyped passphrase", "page/verdict.js", "right.length ? right : tried.filter(isTogether)", "right", of_page(lambda page: astray.check_blamed(page, unseen))),
     ("four letters of a word in a pasted paper are none", "page/paper_entry.js", "found.length === 1 ? found[0] : word", "word", of_page(lambda page: astray.check_blamed(page, unseen))),
     ("a repaired paper that no drill tried is called right", "page/result.js", "repaired.filter((name) => names.includes(name))", "repaired", of_page(lambda page: astray.check_untried(page, unseen))),

@@ -129,7 +129,7 @@ def check_found():
         owner.answer(paper_prompt(2), with_words(elsewhere[0], {6: "?"}))
         owner.answer(sure("0.0"), "y")
         owner.wait(paper_prompt(2))
-        owner.expect(say("refused.repaired.new"))
+        owner.expect(say("refused.repaired.apart"))
         owner.lacks(say("collect.apart", count=2))
         end_by_keys(owner)
     with started("check") as owner:

@@ -15,7 +15,7 @@ def check_refused_repaired():
         owner.answer(paper_prompt(2), with_words(changed(THREE_GROUPS[0], exponent=3), {6: "?"}))
         owner.answer(sure("0.0"), "y")
         owner.wait(paper_prompt(2))
-        owner.expect("Either it is of another backup, or it is wrong, since words of it were found and not read. It is left out.")
+        owner.expect("Most likely it is wrong, since words of it were found and not read. It is left out.")
         owner.lacks("To take a paper out again")
         owner.answer(paper_prompt(2), with_words(THREE_GROUPS[0], {6: "?"}))
         owner.answer(sure("0.0"), "y")

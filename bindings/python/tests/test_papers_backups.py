@@ -190,7 +190,7 @@ class CollectTests(unittest.TestCase):
         """A paper of which words were found isn't taken as one of another backup. If it came first, it is the one that may be wrong."""
         desk, screen = self.collected(FIVE[0], found_in(ONE, 6), True, "")
         self.assertEqual(desk.lines, FIVE[:1])
-        self.assertIn(say("refused.repaired.new"), screen.told)
+        self.assertIn(say("refused.repaired.apart"), screen.told)
         desk, screen = self.collected(found_in(ONE, 6), True, FIVE[0], "", "2")
         self.assertEqual(desk.lines, FIVE[:1])
         self.assertIn(say("refused.repaired.one", names="0.0"), screen.told)

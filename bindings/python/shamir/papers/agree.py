@@ -48,6 +48,8 @@ def _drilled(screen: Screen, old: Desk, new: Desk, noted: str) -> Verdict:
         second.sentences = [" ".join([*second.sentences, say("change.same")])] if noted else [say("change.agree")]
     elif second.result == "other":
         second.sentences = [say("change.other")]
+    elif second.result in ("some", "several"):
+        second.sentences.append(say("change.broken"))
     return second
 
 

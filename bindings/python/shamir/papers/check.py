@@ -102,7 +102,7 @@ def _tell_written(screen: Screen, desk: Desk, verdict: Verdict, result: str) -> 
 def _is_proved(desk: Desk, verdict: Verdict, result: str) -> bool:
     """Whether a drill shows that all words of damaged papers are right. A paper that was written anew may have been taken out."""
     repaired = [paper for paper in desk.papers if paper.is_repaired]
-    is_there = desk.written != "repaired" or any(paper.is_rewritten and paper.name in verdict.names for paper in desk.papers)
+    is_there = not desk.written or any(paper.is_rewritten and paper.name in verdict.names for paper in desk.papers)
     return result == "good" and is_there and all(paper.name in verdict.names for paper in repaired)
 
 

@@ -9,7 +9,7 @@ from shamir.papers.desk import Desk, Paper, paper_of
 from shamir.papers.entry import Entry
 from shamir.papers.judged import begin, judge_all, tell_judged
 from shamir.papers.paste import Pasted, ask_whole
-from shamir.papers.refusals import said_foreign, said_repaired
+from shamir.papers.refusals import said_foreign
 from shamir.papers.screen import Screen
 from shamir.papers.spelling import DROP, parts_of
 from shamir.papers.standing import show_status
@@ -92,7 +92,7 @@ def _take(screen: Screen, desk: Desk, title: str, paper: Paper, task: str) -> No
     doubtful, is_apart = [it.name for it in desk.doubtful(paper)], desk.is_apart(paper)
     try:
         if is_apart and paper.is_repaired:
-            return _refuse(screen, desk, paper, said_repaired(doubtful, True), doubtful)
+            return _refuse(screen, desk, paper, say("refused.repaired.apart"), doubtful)
         is_new = desk.add(paper)
     except shamir.Refusal as refusal:
         return _refuse(screen, desk, paper, said_foreign(refusal, doubtful, paper.is_repaired), doubtful)

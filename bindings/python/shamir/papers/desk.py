@@ -170,7 +170,7 @@ class Desk:
         """Returns the papers here that a paper doesn't fit, if words of each of them were found: they may be wrong."""
         if self.is_apart(paper):
             return self.unsure
-        others = [it for it in self.backups.get(paper.id, []) if not _fit(it, paper)]
+        others = [it for it in self.backups.get(paper.id, []) if not fit(it, paper)]
         return others if all(it.is_repaired for it in others) else []
 
     def add(self, paper: Paper) -> bool:
@@ -261,7 +261,7 @@ class Desk:
         return outcome
 
 
-def _fit(one: Paper, other: Paper) -> bool:
+def fit(one: Paper, other: Paper) -> bool:
     """Whether two papers of one identifier can be of one backup."""
     try:
         shamir.judge([one.line], other.line)

@@ -25,7 +25,7 @@ class Verdict:
     the papers that were tried, and of those that are in a right quorum, or, without one, belong together as a digest says, and whether a
     passphrase was typed. `is_own` says that the secret wasn't compared with what the owner noted, but with the one that was just
     backed up. `fingerprint` is that of the right secret, as far as it is known. `part` says how many quorums were tried, if not all
-    were, and `is_wrong` that one of these is wrong."""
+    were, `is_wrong` that one of these is wrong, and `is_other` that all give one other secret."""
 
     result: str
     sentences: List[str]
@@ -36,6 +36,7 @@ class Verdict:
     fingerprint: str = field(default="", repr=False)
     part: str = ""
     is_wrong: bool = False
+    is_other: bool = False
 
 
 def measured() -> float:
@@ -126,7 +127,7 @@ def verdict_of(
     is_wrong = result != "good" and bool(tried)
     wanted = _wanted(noted, found)
     right = _names(it for it in tried if gives(it, wanted)) or _names(it for it in tried if it.mismatch is None and len(it.names) > 1)
-    return Verdict("stopped" if is_stopped else result, sentences, _names(tried), right, has_passphrase, is_own, wanted, part, is_wrong)
+    return Verdict("stopped" if is_stopped else result, sentences, _names(tried), right, has_passphrase, is_own, wanted, part, is_wrong, result == "other")
 
 
 def tell_verdict(screen: Screen, verdict: Verdict, good: str) -> None:

@@ -10,7 +10,7 @@ from shamir.papers.marks import judged
 from shamir.papers.refusals import said_foreign
 from shamir.papers.screen import Screen
 from shamir.papers.spelling import parts_of
-from shamir.papers.texts import say
+from shamir.papers.texts import counted, say
 
 # So many words tell one paper from another.
 BEGIN_WORDS = 4
@@ -67,6 +67,9 @@ def tell_judged(screen: Screen, desk: Desk, found: Judged) -> None:
             names = [paper.name for paper in papers if paper.id == here[0].id]
             if names:
                 screen.tell(say(several if desk.others else only, names=", ".join(names), begin=here[0].opening))
+    for paper in found.taken:
+        if not paper.is_possible:
+            screen.tell(say("what.impossible", name=paper.name, groups=counted(paper.group_count, "group")), "bad")
     if not found.taken and not found.repeated:
         screen.tell(say("paste.none"), "bad")
     for first, why in found.faults:

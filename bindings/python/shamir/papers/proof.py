@@ -75,7 +75,7 @@ def _tries_again(screen: Screen, verdict: Verdict, made: Made) -> bool:
     """Says why the backup isn't made, and returns whether the owner types the passphrase again. The papers are those that were shown, and
     the fingerprint is right. So if all quorums give one other secret, the passphrase is another one than they were made with."""
     screen.tell(say("make.failed.title"), "strong")
-    if verdict.is_wrong and verdict.result in ("other", "stopped"):
+    if verdict.is_other:
         which = "without" if not made.has_passphrase else "" if verdict.has_passphrase else "none"
         screen.tell(say(".".join(filter(None, ["proof.passphrase", which]))), "bad")
         screen.tell(say("proof.passphrase.then" if made.has_passphrase else "proof.passphrase.without.then"))

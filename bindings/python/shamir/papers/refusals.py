@@ -28,8 +28,8 @@ def said_foreign(refusal: shamir.Refusal, repaired: Sequence[str], is_repaired: 
 
 
 def said_repaired(repaired: Sequence[str], is_repaired: bool = False) -> str:
-    """Says of a paper that doesn't fit others that words of it may have been found wrongly, or of these that most likely words of them were. If
-    none were found, says nothing."""
+    """Says of a paper that doesn't fit others, or of these, that most likely words of them were found wrongly. If none were found, says
+    nothing."""
     if is_repaired:
         return say("refused.repaired.new")
     return say(f"refused.repaired.{one_or_many(repaired)}", names=", ".join(repaired)) if repaired else ""

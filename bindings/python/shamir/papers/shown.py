@@ -5,7 +5,7 @@ import dataclasses
 from dataclasses import dataclass
 from typing import Sequence
 
-from shamir.papers.desk import Desk, Paper, is_same
+from shamir.papers.desk import Desk, Paper, fit, is_same
 from shamir.papers.entry import Entry
 from shamir.papers.plan import Plan, said_takes
 from shamir.papers.screen import Screen
@@ -81,7 +81,8 @@ def _is_right(screen: Screen, paper: Paper, typed: Paper) -> bool:
     if is_same(paper, typed):
         return True
     screen.drop_typed()
-    screen.tell(say("back.foreign" if typed.opening != paper.opening or typed.name == paper.name else "back.other", name=paper.name, typed=typed.name), "bad")
+    is_foreign = typed.id != paper.id or typed.name == paper.name or not fit(paper, typed)
+    screen.tell(say("back.foreign" if is_foreign else "back.other", name=paper.name, typed=typed.name), "bad")
     return False
 
 

@@ -233,7 +233,8 @@ OWN: Dict[str, str] = {
     "damaged.anew.many": "The papers {names} can't be read in full, or are miswritten. Write them anew, before more of them is lost: 'Read a damaged paper' (repair) shows all words of one.",
     "damaged.refused.13": "At least 2 words are wrong, or 2 changed places, so the program can't find the place. Look at each word on the paper again. For a word that you aren't sure of, type ? or its first letters and ?. If the paper says the same, it is itself wrong: type ? for up to 3 words that may be wrong.",
     "refused.13": "The words don't belong together, and more than one of them is wrong, or 2 changed places. Compare each word with your paper. If they agree, the paper itself is wrong: type ? for up to 3 words that may be wrong. Or type - alone, and leave this paper out.",
-    "refused.repaired.new": "This paper can't be of one backup with the others. Either it is of another backup, or it is wrong, since words of it were found and not read. It is left out. Look at the damaged paper again, or first type another paper of its backup.",
+    "refused.repaired.new": "This paper can't be of one backup with the others. Most likely it is wrong, since words of it were found and not read. It is left out. Look at the damaged paper again.",
+    "refused.repaired.apart": "This paper can't be of one backup with the others. Either it is of another backup, or it is wrong, since words of it were found and not read. It is left out. Look at the damaged paper again, or first type another paper of its backup.",
     "refused.18": "The words don't belong together. If only one of them is wrong, it is word {first}. Look at word {first} on your paper, and type it again. If the paper says the same, it is miswritten: type ?, and the program finds the word that was meant.",
     "refused.31": "This isn't a plan. Plans are typed so: 2of3, or 2/3of5,1of1 with groups.",
 }
