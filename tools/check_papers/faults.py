@@ -129,7 +129,7 @@ FAULTS = [
     ("a passphrase is cut", "line", "            self.is_cut = True\n", "            pass\n", lambda see: astray.check_letter()),
     ("a drill without the repaired paper counts for it", "check", "is_there and all(paper.name in verdict.names for paper in repaired)", "is_there", lambda see: repaired.check_untried()),
     ("a drill without the paper that was written anew counts for it", "check", "is_rewritten and paper.name in verdict.names for", "is_rewritten for", lambda see: repaired.check_whole()),
-    ("a drill without a paper that was taken out counts for it", "check", 'is_there = desk.written != "repaired" or', "is_there = True or", lambda see: repaired.check_taken_out()),
+    ("a drill without a paper that was taken out counts for it", "check", "is_there = not desk.written or", "is_there = True or", lambda see: repaired.check_taken_out()),
     ("a typed word is called wrong beside a paper that fits", "found", "for fit in [] if found else fits:", "for fit in set(fits) - set(found):", lambda see: repaired.check_impossible()),
     ("of too few papers, words that were found count as right", "check", "if any(it.is_repaired for it in desk.papers) else too_few", "if False else too_few", lambda see: repaired.check_few()),
     ("that a group needs one paper counts as shown", "check", "if paper.is_answered], \"\")", "if False], \"\")", lambda see: repaired.check_lone()),
