@@ -77,8 +77,7 @@ export class Backups {
    */
   #kind(line) {
     const isAmong = (/** @type {Uint8Array[]} */ lines) => lines.some((it) => beside(this.#engine, line, it) === "same");
-    const [isRepaired, isRead, isWritten] = [this.#rest.repaired, this.#rest.read, this.#rest.written].map(isAmong);
-    return { ...kindOf(this.#engine, line), isRepaired, isCopy: isRepaired || isRead, isWritten };
+    return { ...kindOf(this.#engine, line), isRepaired: isAmong(this.#rest.repaired), isWritten: isAmong(this.#rest.written) };
   }
 
   /**
@@ -113,16 +112,19 @@ export class Backups {
     }
   }
 
-  /** Whether a copy of a damaged paper isn't among the papers of the backup that was chosen. */
-  get isCopyOut() {
-    const own = this.lines;
-    return [...this.#rest.repaired, ...this.#rest.read].some((line) => !own.some((it) => beside(this.#engine, line, it) === "same"));
+  /** Whether there are copies of damaged papers of which no drill has shown that they are right. */
+  get hasCopies() {
+    return this.#rest.repaired.length + this.#rest.read.length > 0;
   }
 
-  /** Forgets which papers are copies of damaged ones, as a drill has shown that they are right. */
-  prove() {
-    zero(...this.#rest.repaired, ...this.#rest.read);
-    [this.#rest.repaired, this.#rest.read] = [[], []];
+  /**
+   * Forgets that papers are copies of damaged ones, as a drill has shown that they are right.
+   *
+   * @param {string[]} names those of the backup that was chosen
+   */
+  prove(names) {
+    const right = this.lines.filter((line) => names.includes(kindOf(this.#engine, line).name));
+    this.#forgetCopies((it) => right.some((line) => beside(this.#engine, it, line) === "same"));
   }
 
   /**
@@ -133,10 +135,18 @@ export class Backups {
   #replace(line) {
     const isSame = (/** @type {Kind} */ one, /** @type {Kind} */ other) => one.id === other.id && one.name === other.name;
     const kind = kindOf(this.#engine, line);
-    const earlier = [...this.#rest.repaired, ...this.#rest.read].filter((it) => resembles(it, line) || isSame(kindOf(this.#engine, it), kind));
-    const rest = (/** @type {Uint8Array[]} */ lines) => lines.filter((it) => !earlier.includes(it));
-    [this.#rest.repaired, this.#rest.read] = [rest(this.#rest.repaired), rest(this.#rest.read)];
-    zero(...earlier);
+    // Two papers of one backup can have most words in common, too.
+    const isLike = (/** @type {Uint8Array} */ it) => resembles(it, line) && beside(this.#engine, it, line) !== "more";
+    this.#forgetCopies((it) => isLike(it) || isSame(kindOf(this.#engine, it), kind));
+  }
+
+  /** @param {(line: Uint8Array) => boolean} isMeant */
+  #forgetCopies(isMeant) {
+    for (const how of /** @type {const} */ (["repaired", "read"])) {
+      const gone = this.#rest[how].filter(isMeant);
+      this.#rest[how] = this.#rest[how].filter((it) => !gone.includes(it));
+      zero(...gone);
+    }
   }
 
   /**

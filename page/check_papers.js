@@ -97,10 +97,10 @@ export async function drillWithPassphrase(desk, status, kinds, { title, passphra
       fault = saidRefusal(verdict.refused);
       continue;
     }
-    // Only a drill that has all copies of damaged papers, and that gives the noted fingerprint, shows that they are right.
-    const isShown = verdict.isEqual && !(await desk.ask("isCopyOut")) && kinds.every(({ isCopy, name }) => !isCopy || verdict.names.includes(name));
-    if (isShown) await desk.ask("prove");
-    const answer = await tellVerdict(verdict, noted, { status, kinds, left: await saidLeftOut(desk), isKept: hasDamaged && !isShown });
+    // A drill that gives the noted fingerprint shows that the copies of damaged papers are right that it tried.
+    if (verdict.isEqual) await desk.ask("prove", { names: verdict.names });
+    const isKept = hasDamaged && (await desk.ask("hasCopies"));
+    const answer = await tellVerdict(verdict, noted, { status, kinds, left: await saidLeftOut(desk), isKept });
     if (answer !== "again") return answer;
     fault = "";
   }

@@ -16,7 +16,7 @@ import { selfTest } from "./self_test.js";
 /** @typedef {{names: string[], fingerprint: string | null, expected: boolean | null, mismatch: number | null}} Tried */
 /** @typedef {{groupCount: number, groupThreshold: number, memberThreshold: number}} Counts */
 /** @typedef {{id: number, secretBytes: number, exponent: number, extendable: boolean}} Parameters */
-/** @typedef {{isPossible: boolean, isRepaired: boolean, isCopy: boolean, isWritten: boolean}} Found whether a backup can have a paper, whether words of it were found, whether it is a copy of a damaged one, and whether it was written again from others */
+/** @typedef {{isPossible: boolean, isRepaired: boolean, isWritten: boolean}} Found whether a backup can have a paper, and whether words of it were found, or it was written again from others */
 /** @typedef {Counts & Parameters & Found & {name: string, words: number, begin: string}} Kind what a paper is. `begin` is its first words */
 /** @typedef {{id: number, begin: string, kinds: Kind[], status: Status}} Backup the papers of a backup, all of which begin with the same words */
 /** @typedef {{unsound: number, names: string[], apart: {begin: string, names: string[]}[]}} LeftOut */
@@ -330,8 +330,8 @@ const CALLS = {
   describe,
   add,
   doubtful,
-  isCopyOut: () => backups.isCopyOut,
-  prove: () => backups.prove(),
+  hasCopies: () => backups.hasCopies,
+  prove: ({ names }) => backups.prove(names),
   leaveOut: ({ line }) => backups.leaveOut(line),
   leftOut: () => backups.leftOut,
   backups: () => backups.list,

@@ -65,7 +65,6 @@ export function kindOf(engine, line) {
     memberThreshold: share.memberThreshold,
     isPossible: share.groupIndex < share.groupCount,
     isRepaired: false,
-    isCopy: false,
     isWritten: false,
   };
 }

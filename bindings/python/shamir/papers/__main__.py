@@ -48,7 +48,7 @@ DESCRIPTION = "Makes paper backups of a wallet's secret (SLIP-0039), checks them
 
 
 def readable(word: str) -> str:
-    """Returns a word of the command as a text. What isn't UTF-8, or isn't printed, becomes a sign that no plan has."""
+    """Returns a word of the command as a text. What isn't UTF-8, or is neither printed nor space, becomes a sign that no plan has."""
     return "".join(it if it.isprintable() or it.isspace() else "\ufffd" for it in os.fsencode(word).decode("utf-8", "replace"))
 
 

@@ -46,7 +46,7 @@ def _drilled(screen: Screen, old: Desk, new: Desk, noted: str) -> Verdict:
     second = run_drill(screen, new, first.fingerprint, is_own=not noted, is_new=True)
     if second.result == "good":
         second.sentences = [" ".join([*second.sentences, say("change.same")])] if noted else [say("change.agree")]
-    elif second.result == "other":
+    elif second.is_other:
         second.sentences = [say("change.other")]
     elif second.result in ("some", "several"):
         second.sentences.append(say("change.broken"))

@@ -84,7 +84,7 @@ def _tell_repaired(screen: Screen, desk: Desk, verdict: Verdict, result: str) ->
     if result in ("none", "some") and not verdict.part:
         _tell_names(screen, "damaged.suspect", [paper for paper in tried if paper.name not in verdict.right], "strong")
     _tell_names(screen, "damaged.right", [paper for paper in right if paper.is_rewritten], "good")
-    if not _is_proved(desk, verdict, result) and (repaired or desk.written == "repaired"):
+    if len(right) < len(repaired) or (desk.written == "repaired" and not _is_proved(desk, verdict, result)):
         screen.tell(say("damaged.keep"), "strong")
 
 
