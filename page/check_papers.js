@@ -97,7 +97,7 @@ export async function drillWithPassphrase(desk, status, kinds, { title, passphra
       fault = saidRefusal(verdict.refused);
       continue;
     }
-    // A drill that gives the noted fingerprint shows that the copies of damaged papers are right that it tried.
+    // If a drill gives the noted fingerprint, the copies of damaged papers that it tried are right.
     if (verdict.isEqual) await desk.ask("prove", { names: verdict.names });
     const isKept = hasDamaged && (await desk.ask("hasCopies"));
     const answer = await tellVerdict(verdict, noted, { status, kinds, left: await saidLeftOut(desk), isKept });
