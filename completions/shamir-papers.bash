@@ -4,6 +4,8 @@
 _shamir_papers() {
     local word=${COMP_WORDS[COMP_CWORD]} options at
     COMPREPLY=()
+    # After two dashes, no word is an option.
+    [[ " ${COMP_WORDS[*]:0:COMP_CWORD} " != *' -- '* ]] || return 0
     case $COMP_CWORD in
     1) options='new check recover replace change repair what --help --version' ;;
     *) options='--help' ;;

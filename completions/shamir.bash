@@ -15,6 +15,8 @@ _shamir() {
         said+="${COMP_WORDS[at]} "
     done
     compopt +o default
+    # After two dashes, no word is an option.
+    [[ $said != *' -- '* ]] || return 0
     # After an equals sign, which may be a separate word, comes the value of the option before it.
     if [[ $word == = ]]; then
         word=''
