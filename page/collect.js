@@ -3,8 +3,8 @@ import { Declined } from "./client.js";
 import { BACK, button, element, paragraph } from "./dom.js";
 import { leaveEntry, PaperEntry, USUAL_WORDS } from "./paper_entry.js";
 import { picture, saidWhole } from "./picture.js";
-import { saidForeign, saidRepaired, wordsToLookAt } from "./refusals.js";
-import { counted, say } from "./say.js";
+import { saidForeign, wordsToLookAt } from "./refusals.js";
+import { counted, formOf, say } from "./say.js";
 import { ask, dropQuestion, show } from "./screen.js";
 
 /** @typedef {import("./client.js").Desk} Desk */
@@ -164,15 +164,16 @@ class Collection {
   }
 
   /**
-   * Says that a paper is the first one of another backup. If words of the only paper of a backup were found, most likely some are wrong.
+   * Says that a paper is the first one of another backup. If words of the only paper of a backup were found, it may be that some are wrong.
    *
    * @param {Kind} kind
    */
   #saidOther({ name, begin, groupCount, isPossible }) {
     if (!isPossible) return say("what.impossible", { name, groups: counted(groupCount, "group") });
-    const doubtful = this.#backups.filter(({ kinds }) => kinds.length === 1 && kinds[0].isRepaired);
-    const repaired = doubtful.flatMap(({ kinds }) => kinds.map((it) => it.name));
-    return `${say("collect.taken.apart", { name, begin })} ${repaired.length ? saidRepaired(repaired) : ""}`.trim();
+    const unsure = this.#backups.filter(({ kinds }) => kinds.length === 1 && kinds[0].isRepaired);
+    const names = unsure.map(({ kinds: [it] }) => say("backup.paper", { name: it.name, begin: it.begin }));
+    const apart = say("collect.taken.apart", { name, begin });
+    return names.length ? `${apart} ${say(`collect.unsure.${formOf(names)}`, { names: names.join(", ") })}` : apart;
   }
 
   /** @param {Kind} kind */

@@ -73,15 +73,6 @@ export function saidForeign(error, repaired) {
   const { code } = error.refused;
   // These refusals, and those between them, are of papers that aren't of one backup.
   if (code < Code.OTHER_IDENTIFIER || code > Code.CONFLICTING_SHARE) return saidError(error);
-  return saidRepaired(repaired);
-}
-
-/**
- * Says that most likely papers are wrong of which words were found, since they can't be of one backup with the others.
- *
- * @param {string[]} repaired
- */
-export function saidRepaired(repaired) {
   return say(`refused.repaired.${formOf(repaired)}`, { names: repaired.join(", ") });
 }
 

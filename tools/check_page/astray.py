@@ -288,6 +288,7 @@ def check_several_repaired(page, see):
     offered, and one of another backup is told."""
     papers = papers_of("2of3")
     noted, wrong = fingerprint_of(papers[:2], ""), changed(papers[2], value=bytes(16))
+    unsure = say("backup.paper", name="0.1", begin=opening(papers[1]))
     for third, title, texts in [
         (papers[2], "check.done.good", [say("damaged.right.many", names="0.1, 0.2")]),
         (wrong, "check.done.some", [say("damaged.suspect.one", names="0.2"), say("damaged.keep")]),
@@ -295,7 +296,7 @@ def check_several_repaired(page, see):
         begin(page, "damaged")
         write_anew(page, papers[1])
         paste(page, SOUND_PAPER)
-        page.wait_text(f"{say('collect.taken.apart', name='0.0', begin=opening(SOUND_PAPER))} {say('refused.repaired.one', names='0.1')}")
+        page.wait_text(f"{say('collect.taken.apart', name='0.0', begin=opening(SOUND_PAPER))} {say('collect.unsure.one', names=unsure)}")
         page.push(say("collect.drop.of", name="0.0", begin=opening(SOUND_PAPER)))
         page.push(say("damaged.another"))
         write_anew(page, third)
@@ -304,7 +305,7 @@ def check_several_repaired(page, see):
         paste(page, SOUND_PAPER)
         # Two of one backup agree in its identifier, so a third one isn't theirs.
         page.wait_text(say("collect.taken.apart", name="0.0", begin=opening(SOUND_PAPER)))
-        page.lacks("Most likely one of the papers")
+        page.lacks("of which words were found")
         page.push(say("collect.drop.of", name="0.0", begin=opening(SOUND_PAPER)))
         take(page, papers[:1])
         page.push(say("damaged.another"), to=say("damaged.title"))
@@ -317,7 +318,7 @@ def check_several_repaired(page, see):
         # A paper that was read has the same identifier, so it isn't in doubt any more.
         paste(page, SOUND_PAPER)
         page.wait_text(say("collect.taken.apart", name="0.0", begin=opening(SOUND_PAPER)))
-        page.lacks("Most likely one of the papers")
+        page.lacks("of which words were found")
         page.push(say("collect.drop.of", name="0.0", begin=opening(SOUND_PAPER)))
         see("several repaired papers")
         page.push(say("collect.end"))

@@ -124,6 +124,7 @@ def check_found():
     """Words that were found and not read may make a paper one of another backup. So it isn't taken beside others. If it came first, it is
     the one that may be wrong, as long as no other paper of its backup was read in full."""
     elsewhere = [changed(line, id=77) for line in THREE_GROUPS]
+    unsure = say("collect.unsure.one", names=say("backup.paper", name="0.0", begin=opening(elsewhere[0])))
     with started("check") as owner:
         owner.type_paper(paper_prompt(1), THREE_GROUPS[1])
         owner.answer(paper_prompt(2), with_words(elsewhere[0], {6: "?"}))
@@ -137,7 +138,8 @@ def check_found():
         owner.answer(sure("0.0"), "y")
         owner.type_paper(paper_prompt(2), THREE_GROUPS[1])
         owner.wait(paper_prompt(3))
-        owner.expect(say("refused.repaired.one", names="0.0"))
+        owner.expect(say("collect.apart", count=2))
+        owner.expect(unsure)
         owner.expect(say("entry.drop", sign=SIGN, name="0.0"))
         owner.forget()
         owner.type_paper(paper_prompt(3), elsewhere[1])

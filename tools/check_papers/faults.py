@@ -117,7 +117,7 @@ FAULTS = [
     ("a letter is taken for a passphrase", "questions", "if typed.lower() == BACK.encode() and", "if False and", lambda see: astray.check_letter()),
     ("what is typed in place of an answer shows", "questions", "if edge == b\" \" and not screen.agree(say(key), is_hidden=True):", "if edge == b\" \" and not screen.agree(say(key)):", lambda see: astray.check_letter()),
     ("a paper that no backup has is offered", "desk", "return self.group < self.group_count", "return True", lambda see: repaired.check_impossible()),
-    ("a good paper is blamed for a repaired one", "refusals", "said_repaired(repaired, is_repaired) or said_refusal(refusal)", "said_refusal(refusal)", lambda see: repaired.check_repaired()),
+    ("a good paper is blamed for a repaired one", "refusals", "    if repaired:", "    if False:", lambda see: repaired.check_repaired()),
     ("the damaged paper isn't kept", "__main__", 'in ("repaired", "changing", "unfinished")', 'in ("changing", "unfinished")', lambda see: repaired.check_repaired()),
     ("a backup without a whole drill is called done", "__main__", 'in ("repaired", "changing", "unfinished")', 'in ("repaired", "changing")', lambda see: ends.check_unproved()),
     ("a second signal keeps the terminal as it is", "terminal", "            self._is_ending = True\n            raise", "            raise", lambda see: ends.check_two_signals()),

@@ -193,8 +193,8 @@ class CollectTests(unittest.TestCase):
         self.assertIn(say("refused.repaired.apart"), screen.told)
         desk, screen = self.collected(found_in(ONE, 6), True, FIVE[0], "", "2")
         self.assertEqual(desk.lines, FIVE[:1])
-        self.assertIn(say("refused.repaired.one", names="0.0"), screen.told)
-        self.assertNotIn(say("collect.apart", count=2), screen.told)
+        self.assertIn(say("collect.apart", count=2), screen.told)
+        self.assertIn(say("collect.unsure.one", names=say("backup.paper", name="0.0", begin=" ".join(ONE.split()[:2]))), screen.told)
 
     def test_pasted(self):
         """All lines of a paste are judged. Those of each backup are named together."""

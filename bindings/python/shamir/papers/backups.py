@@ -4,11 +4,10 @@ from __future__ import annotations
 from typing import Dict, Optional
 
 from shamir.papers.desk import Desk, Paper
-from shamir.papers.refusals import said_repaired
 from shamir.papers.screen import Back, Screen
 from shamir.papers.spelling import DROP
 from shamir.papers.standing import show_status
-from shamir.papers.texts import say
+from shamir.papers.texts import one_or_many, say
 
 
 def label(desk: Desk, paper: Paper) -> str:
@@ -18,11 +17,13 @@ def label(desk: Desk, paper: Paper) -> str:
 
 def show_typed(screen: Screen, desk: Desk, task: str) -> None:
     """Shows what is complete and what is missing of each backup of which papers are here, and says why there are several."""
-    backups, unsure = desk.backups, [paper.name for paper in desk.unsure]
+    backups, unsure = desk.backups, desk.unsure
     if len(backups) > 1:
-        screen.tell(said_repaired(unsure) or say("collect.apart", count=len(backups)), "bad")
+        screen.tell(say("collect.apart", count=len(backups)), "bad")
         if unsure:
-            screen.tell(say("entry.drop", sign=DROP, name=unsure[-1]))
+            names = ", ".join(label(desk, paper) for paper in unsure)
+            screen.tell(say(f"collect.unsure.{one_or_many(unsure)}", names=names), "bad")
+            screen.tell(say("entry.drop", sign=DROP, name=unsure[-1].name))
     for papers in backups.values():
         if len(backups) > 1:
             screen.tell(f"{say('status.backup', begin=papers[0].opening)}:", "strong")

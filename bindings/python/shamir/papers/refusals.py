@@ -24,15 +24,11 @@ def _form(refusal: shamir.Refusal) -> str:
 def said_foreign(refusal: shamir.Refusal, repaired: Sequence[str], is_repaired: bool = False) -> str:
     """Says why a paper doesn't belong to the others. If words of it or of some of them were found and not read, most likely these are
     wrong."""
-    return said_repaired(repaired, is_repaired) or said_refusal(refusal)
-
-
-def said_repaired(repaired: Sequence[str], is_repaired: bool = False) -> str:
-    """Says of a paper that doesn't fit others, or of these, that most likely words of them were found wrongly. If none were found, says
-    nothing."""
     if is_repaired:
         return say("refused.repaired.new")
-    return say(f"refused.repaired.{one_or_many(repaired)}", names=", ".join(repaired)) if repaired else ""
+    if repaired:
+        return say(f"refused.repaired.{one_or_many(repaired)}", names=", ".join(repaired))
+    return said_refusal(refusal)
 
 
 def _undetermined(first: int, second: int, task: str) -> str:
