@@ -48,6 +48,18 @@ static void drill(const shamir_papers *papers, const char *noted, const char *fi
     free(room);
 }
 
+/* Whether NULL is as good as an empty passphrase. */
+static int is_none(const shamir_papers *papers, char *room, size_t room_bytes)
+{
+    uint8_t secret[SHAMIR_SECRET_BYTES_MAX] = {0}, same[SHAMIR_SECRET_BYTES_MAX] = {0};
+    const shamir_answer answer = shamir_papers_recover(papers, NULL, NULL, secret, sizeof secret);
+    const shamir_answer other = shamir_papers_recover(papers, "", NULL, same, sizeof same);
+    shamir_drilling drilling = shamir_drill_start(papers->backup, papers->backup_bytes, NULL, "df41d8fe", room, room_bytes);
+    const int is_listed = shamir_drill_next(&drilling);
+
+    return answer.code == other.code && memcmp(secret, same, sizeof secret) == 0 && is_listed == (answer.code == SHAMIR_DONE);
+}
+
 int main(int count, char **words)
 {
     static char line[4 * SHAMIR_LINE_BYTES_MAX];
@@ -69,6 +81,9 @@ int main(int count, char **words)
     answer = shamir_papers_recover(&papers, "TREZOR", words[3], secret, sizeof secret);
     printf("code %u bytes %lu\n", (unsigned)answer.code, (unsigned long)answer.written);
     drill(&papers, words[3], words[4], (size_t)atoi(words[2]));
+    if (!is_none(&papers, line, sizeof line)) {
+        puts("another answer without a passphrase");
+    }
     free(papers.lines);
     return 0;
 }

@@ -12,6 +12,22 @@ export { Papers } from "./papers.js";
 export { drillWithProgress } from "./progress.js";
 export { Code, Engine, EXPONENT_MAX, load, OF_GROUPS, Refusal } from "./shamir.js";
 
+/** @typedef {import("./types.js").Codes} Codes */
+/** @typedef {import("./types.js").CreateOptions} CreateOptions */
+/** @typedef {import("./types.js").DecryptOptions} DecryptOptions */
+/** @typedef {import("./types.js").DrillOptions} DrillOptions */
+/** @typedef {import("./types.js").EncryptedSecret} EncryptedSecret */
+/** @typedef {import("./types.js").GroupStatus} GroupStatus */
+/** @typedef {import("./types.js").Judgement} Judgement */
+/** @typedef {import("./types.js").Lines} Lines */
+/** @typedef {import("./types.js").Outcome} Outcome */
+/** @typedef {import("./types.js").RecoverOptions} RecoverOptions */
+/** @typedef {import("./types.js").ResplitOptions} ResplitOptions */
+/** @typedef {import("./types.js").Share} Share */
+/** @typedef {import("./types.js").ShareFields} ShareFields */
+/** @typedef {import("./types.js").Status} Status */
+/** @typedef {import("./types.js").Text} Text */
+/** @typedef {import("./progress.js").NumberedOutcome} NumberedOutcome */
 /** @typedef {import("./shamir.js").Engine} TheEngine */
 
 // The name stands in a variable, so that tools which join modules leave it as it is: browsers don't have this module.

@@ -419,6 +419,8 @@ class SpellingTests(unittest.TestCase):
         self.assertEqual(parts_of("7 shadow, 9. acid"), [(7, "shadow"), (9, "acid")])
         self.assertEqual(parts_of("7 shadow acid 12"), [(7, "shadow"), (None, "acid")])
         self.assertEqual(parts_of("SLIP-0039, Paper 0.1: 1. shadow"), [(1, "shadow")])
+        for name in ["0.0 ", "0.2: ", "(0.2) ", "1.15\n"]:
+            self.assertEqual(parts_of(f"{name}shadow 2.acid"), [(None, "shadow"), (2, "acid")])
         # A longer number or word is read as far as it can matter, since neither may take long.
         self.assertEqual(parts_of("7" * 5000 + "a" * 60000), [(int("7" * 20), "a" * 20)])
         self.assertEqual(parts_of(""), [])
@@ -428,7 +430,7 @@ class SpellingTests(unittest.TestCase):
             self.assertEqual(numbers_of(text), wanted)
 
     def test_idle_numbers(self):
-        for text, is_idle in [("7 acid", False), ("7. ?, 12) acid", False), ("acid", False), ("", False), ("7", True), ("7 acid 8", True), ("6 6 acid", True), ("12.", True), ("SLIP-0039 Paper 0.1 acid", False)]:
+        for text, is_idle in [("7 acid", False), ("7. ?, 12) acid", False), ("acid", False), ("", False), ("7", True), ("7 acid 8", True), ("6 6 acid", True), ("12.", True), ("SLIP-0039 Paper 0.1 acid", False), ("0.2 acid", False)]:
             self.assertEqual(has_idle_number(text), is_idle, text)
 
     def test_continued(self):

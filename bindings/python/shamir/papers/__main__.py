@@ -148,6 +148,7 @@ def main() -> None:
     args = words_of_command().parse_args()
     need_terminal(args.task)
     safety.start_overwriting()
+    signal.pthread_sigmask(signal.SIG_UNBLOCK, [signal.SIGINT])
     forbidden = safety.protect()
     kind = os.environ.get("TERM", "")
     terminal, desk = Terminal(0, 1, kind), Desk()

@@ -5,6 +5,7 @@ import ctypes
 import os
 import pathlib
 import resource
+import signal
 import sys
 from typing import Collection, Iterator, List, Optional
 
@@ -23,6 +24,8 @@ def start_overwriting() -> None:
     """Starts the program anew, in the same process, so that freed memory is overwritten. It does nothing the second time."""
     if all(os.environ.get(name) == value for name, value in OVERWRITING.items()) or not sys.executable:
         return
+    # Ctrl-C waits until the new start heeds it. Before that, Python would answer it with a traceback.
+    signal.pthread_sigmask(signal.SIG_BLOCK, [signal.SIGINT])
     try:
         os.execve(sys.executable, [sys.executable, *sys.orig_argv[1:]], {**os.environ, **OVERWRITING})
     except OSError:
