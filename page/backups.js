@@ -77,7 +77,7 @@ export class Backups {
    */
   #kind(line) {
     const isAmong = (/** @type {Uint8Array[]} */ lines) => lines.some((it) => beside(this.#engine, line, it) === "same");
-    return { ...kindOf(this.#engine, line), isRepaired: isAmong(this.#rest.repaired), isWritten: isAmong(this.#rest.written) };
+    return { ...kindOf(this.#engine, line), isRepaired: isAmong(this.#rest.repaired), isRead: isAmong(this.#rest.read), isWritten: isAmong(this.#rest.written) };
   }
 
   /**
@@ -150,7 +150,7 @@ export class Backups {
   }
 
   /**
-   * Takes a paper that was typed back as it was shown. `how` says whether words of it were found, or it was written again from others.
+   * Takes a paper that was typed back as it was shown. `how` says how it was made. The copy of a damaged one takes the place of an earlier one.
    *
    * @param {Uint8Array} line
    * @param {import("./desk.js").How} how

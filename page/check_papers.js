@@ -118,7 +118,7 @@ function tellVerdict(verdict, noted, { status, kinds, left, isKept }) {
   const { result, fingerprint, hasPassphrase, table } = verdict;
   const [isGood, isNoted] = [result === "good", noted !== ""];
   const namesOf = (/** @type {(kind: Kind) => boolean} */ isMeant) => kinds.filter(isMeant).map(({ name }) => name);
-  const [repaired, written] = [namesOf((it) => it.isRepaired), namesOf((it) => it.isWritten)];
+  const [repaired, written] = [namesOf((it) => it.isRepaired), namesOf((it) => it.isRead || it.isWritten)];
   const lone = namesOf((it) => it.isWritten && it.memberThreshold === 1);
   const found = resultOf(verdict, isNoted, { here: status.groups.flatMap(({ names }) => names), repaired, written, lone, isLeft: left !== null });
   const [tried, anew] = [found.tried, found.anew].map((them) => them.map(({ key, names, kind }) => paragraph(say(key, { names: names.join(", ") }), kind)));

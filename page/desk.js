@@ -16,7 +16,7 @@ import { selfTest } from "./self_test.js";
 /** @typedef {{names: string[], fingerprint: string | null, expected: boolean | null, mismatch: number | null}} Tried */
 /** @typedef {{groupCount: number, groupThreshold: number, memberThreshold: number}} Counts */
 /** @typedef {{id: number, secretBytes: number, exponent: number, extendable: boolean}} Parameters */
-/** @typedef {{isPossible: boolean, isRepaired: boolean, isWritten: boolean}} Found whether a backup can have a paper, and whether words of it were found, or it was written again from others */
+/** @typedef {{isPossible: boolean, isRepaired: boolean, isRead: boolean, isWritten: boolean}} Found whether a backup can have a paper, and whether it is the copy of a damaged one of which words were found, or all were read, or was written again from others */
 /** @typedef {Counts & Parameters & Found & {name: string, words: number, begin: string}} Kind what a paper is. `begin` is its first words */
 /** @typedef {{id: number, begin: string, kinds: Kind[], status: Status}} Backup the papers of a backup, all of which begin with the same words */
 /** @typedef {{unsound: number, names: string[], apart: {begin: string, names: string[]}[]}} LeftOut */

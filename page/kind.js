@@ -65,6 +65,7 @@ export function kindOf(engine, line) {
     memberThreshold: share.memberThreshold,
     isPossible: share.groupIndex < share.groupCount,
     isRepaired: false,
+    isRead: false,
     isWritten: false,
   };
 }

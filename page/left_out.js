@@ -26,7 +26,7 @@ function numbersOf(line) {
 }
 
 /**
- * Whether two lines are most likely of one paper: they have most words in common. Papers of one backup share only the first words.
+ * Whether two lines are most likely of one paper: they have most words in common. Most papers of one backup share only the first words.
  *
  * @param {Uint8Array} one
  * @param {Uint8Array} other

@@ -5,8 +5,9 @@ import { formOf } from "./say.js";
 /** @typedef {"end" | "again" | "papers"} Next to end, to try again with the same papers, or to go back to the papers */
 /** @typedef {{key: string, names: string[], kind: "note" | "good" | "bad" | ""}} Told the key of a sentence, the papers that it names, and how it looks */
 /**
- * The papers: the names of all that are here, of those of which words were found and not read, and of those that were written again from
- * others; of the last ones those whose group needs one paper, as nothing but the owner's answer says; and whether any paper was left out.
+ * The papers: the names of all that are here, of those of which words were found and not read, and of those that were written again, from
+ * others or as they could be read; of those from others the ones whose group needs one paper, as nothing but the owner's answer says; and
+ * whether any paper was left out.
  *
  * @typedef {{here: string[], repaired: string[], written: string[], lone: string[], isLeft: boolean}} Papers
  */

@@ -1,4 +1,5 @@
 """Where an owner who reads only the screen could go astray: papers that don't work, results that say too much, and what may be destroyed."""
+import plain
 from looks import check_screen
 from samples import FINGERPRINT, PASSPHRASE, SOUND_PAPER, THREE_GROUPS, TWO, changed, fingerprint_of, name_of, named, opening, papers_of, swapped, with_words
 from tasks import answer_passphrase, begin, begin_replace, clear, drill, end, found_words, paste, read_paper, take, take_all, type_damaged, type_paper
@@ -149,7 +150,8 @@ def check_untried(page, see):
         (papers[3], papers[4:5], None, "check.done.same", [keep], [right]),
         (papers[3], papers[4:5], noted, "check.done.good", [right], [keep]),
         (papers[3], papers[4:5], None, "check.done.same", [keep], [right], papers[3]),
-        (papers[3], papers[4:5], noted, "check.done.good", [], [keep, right], papers[3]),
+        (papers[3], papers[4:5], noted, "check.done.written", [say("replace.right.one", names="1.0")], [keep, right], papers[3]),
+        (papers[3], papers[:2], noted, "check.done.left_out", [keep], [right], papers[3]),
     ]:
         begin(page, "damaged")
         write_anew(page, line, *read)
@@ -167,11 +169,40 @@ def check_untried(page, see):
     write_anew(page, papers[3], papers[3])
     take(page, papers[:2])
     page.push(say("collect.drop", name="1.0"))
+    page.wait_text(say("collect.dropped", name="1.0"))
     page.push(say("collect.end"))
     drill(page, None, noted)
     page.wait_title(say("check.done.good"))
     page.wait_text(keep)
     see("a copy that was taken out")
+    end(page)
+
+
+def check_alike(page, see):
+    """A copy takes the place of a wrong one of the same damaged paper, also if that began otherwise, and never that of another paper, also if
+    most of its words are the same."""
+    keep, papers = say("damaged.keep"), papers_of("1/1of1,1of1")
+    begin(page, "damaged")
+    write_anew(page, papers[0])
+    page.push(say("damaged.another"))
+    write_anew(page, papers[1])
+    page.wait_text(say("collect.row.repaired", name="0.0", words=20), say("collect.row.repaired", name="1.0", words=20))
+    see("two damaged papers with the same value")
+    clear(page)
+    papers = papers_of("2of3")
+    wrong = changed(papers[0], id=(plain.parse(papers[0].encode())["id"] + 1) % 2**15)
+    begin(page, "damaged")
+    write_anew(page, wrong)
+    page.push(say("collect.drop", name="0.0"))
+    page.wait_text(say("collect.dropped", name="0.0"))
+    take(page, papers[1:2])
+    page.push(say("damaged.another"))
+    write_anew(page, papers[0])
+    page.push(say("collect.end"))
+    drill(page, None, fingerprint_of(papers, ""))
+    page.wait_title(say("check.done.good"))
+    page.wait_text(say("damaged.right.one", names="0.0"))
+    page.lacks(keep)
     end(page)
 
 
@@ -331,6 +362,7 @@ def check_several_repaired(page, see):
             # A right copy takes the place of the wrong one.
             page.push(say("collect.back"), to=say("damaged.check.title"))
             page.push(say("collect.drop", name="0.2"))
+            page.wait_text(say("collect.dropped", name="0.2"))
             page.push(say("damaged.another"))
             write_anew(page, papers[2])
             page.push(say("collect.end"))
@@ -341,4 +373,4 @@ def check_several_repaired(page, see):
         end(page)
 
 
-CHECKS = [check_apart, check_several_repaired, check_left_out, check_impossible, check_repaired, check_blamed, check_untried, check_lost, check_without]
+CHECKS = [check_apart, check_several_repaired, check_left_out, check_impossible, check_repaired, check_blamed, check_untried, check_alike, check_lost, check_without]

@@ -3,7 +3,8 @@ what one paper says."""
 
 from browsers import Failed
 from refusals import said
-from samples import BAD_CHECKSUM, BIP39, FINGERPRINT, PASSPHRASE, SECRET, SOUND_PAPER, THREE_GROUPS, TWO, changed, fingerprint_of, name_of, said_kind
+from samples import BAD_CHECKSUM, BIP39, FINGERPRINT, LONG, PASSPHRASE, SECRET, SOUND_PAPER, THREE_GROUPS, TWO, changed, fingerprint_of, name_of, said_kind
+from samples import with_words
 from tasks import answer_passphrase, begin, choose_wallet, clear, create, drill, end, paste, read_paper, type_digits, type_paper, type_passphrase, write_down
 from texts import counted, say
 
@@ -293,6 +294,11 @@ BESIDE = """
   .every((it) => it.getBoundingClientRect().height < 2 * it.querySelector('button').getBoundingClientRect().height)
 """
 PHONE = (390, 844)
+# Whether what is said stands above the field that has the focus, and both are in sight.
+ABOVE = """
+((said, field) => said.top > -1 && said.bottom <= field.top && field.bottom < innerHeight + 1)
+  (...[document.querySelector('.answer'), document.activeElement].map((it) => it.getBoundingClientRect()))
+"""
 # Returns the texts that reach beyond their boxes.
 CUT = """
 [...document.querySelectorAll('#main button, #main li')].filter((it) => it.checkVisibility() && it.scrollHeight > it.clientHeight + 1)
@@ -351,6 +357,19 @@ def check_phone(page, see):
     page.size(1200, 900)
 
 
+def check_low(page, see):
+    """On a low screen, what is said of a wrong word in the middle of a paper is in sight together with the word."""
+    for size, line, word in [((1280, 800), LONG, 16), ((1366, 625), SOUND_PAPER, 10), ((390, 664), SOUND_PAPER, 9), ((640, 400), SOUND_PAPER, 9)]:
+        page.size(*size)
+        begin(page, "check")
+        paste(page, with_words(line, {word: "lend"}))
+        page.wait_text(said(18, first=word))
+        page.wait(lambda: page.evaluate(ABOVE), f"what is said of word {word} above it, on a screen of {size}")
+        see(f"wrong word on a screen of {size}")
+        clear(page)
+    page.size(1200, 900)
+
+
 def check_help(page, see):
     """The first screen answers ten questions. No refusal names a number of the manual."""
     asked = page.evaluate("document.querySelectorAll('.help details').length")
@@ -368,4 +387,4 @@ def check_help(page, see):
     clear(page)
 
 
-CHECKS = [check_help, check_phone, check_wallet, check_dice, check_dangers, check_notes, check_looks_of_results, check_what]
+CHECKS = [check_help, check_phone, check_low, check_wallet, check_dice, check_dangers, check_notes, check_looks_of_results, check_what]

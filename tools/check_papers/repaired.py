@@ -176,6 +176,31 @@ def check_taken_out():
         owner.finish(say("next.good"), "closed")
 
 
+def check_proved():
+    """Once a drill has shown that the words of a repaired paper are right, it isn't blamed any more."""
+    papers = papers_of("2of3")
+    noted = fingerprint_of(papers, "")
+    with started("repair") as owner:
+        write_anew(owner, papers[1])
+        owner.collect(papers[:1], 2)
+        owner.passphrase("", noted)
+        owner.wait(say("next.good"))
+        owner.expect(say("damaged.right.one", names="0.1"))
+        owner.forget()
+        owner.answer(say("next.good"), "p")
+        owner.answer(paper_prompt(3), f"{SIGN}0.0")
+        owner.type_paper(paper_prompt(2), changed(papers[2], exponent=3))
+        owner.wait(paper_prompt(2))
+        owner.expect(say("refused.23"))
+        owner.type_paper(paper_prompt(2), changed(papers[2], value=bytes(16)))
+        owner.answer(paper_prompt(3), "")
+        owner.passphrase("", noted)
+        owner.wait(say("next.papers"))
+        owner.lacks("Most likely paper 0.1 is wrong")
+        owner.lacks(say("damaged.keep"))
+        owner.finish(say("next.papers"), "closed")
+
+
 def check_whole():
     """A damaged paper that can be read in full, and is written anew: a good drill with it shows that it works, and nothing is to be kept."""
     # The paper itself says that its group needs one paper.
@@ -235,6 +260,7 @@ def check_lone():
 
 CHECKS = [
     check_whole,
+    check_proved,
     check_few,
     check_lone,
     check_refused_repaired,

@@ -15,8 +15,9 @@ if sys.version_info < (3, 10):
     raise unittest.SkipTest("shamir.papers needs Python 3.10")
 
 import shamir  # noqa: E402
+from shamir.papers import agree  # noqa: E402
 from shamir.papers.backups import label  # noqa: E402
-from shamir.papers.check import _kind  # noqa: E402
+from shamir.papers.check import _kind, _tell_repaired  # noqa: E402
 from shamir.papers.collect import collect, tell_left_out  # noqa: E402
 from shamir.papers.desk import Desk, is_same, paper_of  # noqa: E402
 from shamir.papers.drill import Verdict  # noqa: E402
@@ -146,6 +147,24 @@ class DeskTests(unittest.TestCase):
             for paper in papers:
                 desk.drop(paper)
         self.assertEqual(_kind(desk, verdict, "good"), "good")
+
+
+class VerdictTests(unittest.TestCase):
+    def test_a_stopped_drill_of_new_papers(self):
+        """If all that it tried give one other secret, the passphrase is another one, and no fingerprint is blamed."""
+        drills = [Verdict("good", [], fingerprint="01234567"), Verdict("stopped", ["No quorum"], is_other=True)]
+        with unittest.mock.patch.object(agree, "run_drill", side_effect=drills):
+            self.assertEqual(agree._drilled(Answered(), Desk(), Desk(), "01234567").sentences, [say("change.other")])
+
+    def test_a_repaired_paper_beside_one_that_was_written_again(self):
+        """Only what a drill doesn't show keeps the damaged paper, whatever it shows of a paper that was written from others."""
+        desk = desk_of()
+        desk.add(dataclasses.replace(paper_of(FIVE[0]), is_repaired=True))
+        desk.written = "replaced"
+        for names, is_kept in [(("0.0",), False), ((), True)]:
+            screen = Answered()
+            _tell_repaired(screen, desk, Verdict("good", [], names), "good")
+            self.assertEqual(say("damaged.keep") in screen.told, is_kept)
 
 
 class CollectTests(unittest.TestCase):

@@ -125,7 +125,7 @@ class DecisionTests(unittest.TestCase):
         status = shamir.Status(0, 1, tuple(shamir.GroupStatus(it, 1, tuple(one.name for one in papers if one.group == it)) for it in groups))
         written = "repaired" if case["repaired"] else "replaced" if case["written"] else ""
         left = ["academic " * 10] if case["left"] else []
-        here = types.SimpleNamespace(papers=papers, others=[], left_out=left, damaged=[], written=written, status=lambda: status)
+        here = types.SimpleNamespace(papers=papers, others=[], left_out=left, damaged=[], written=written, status=lambda: status, prove=lambda names: None)
         verdict = drill.Verdict(case["result"], [], tuple(case["tried"]), tuple(case["right"]), case["passphrase"])
         screen = Told()
         check._tell(screen, here, verdict, "df41d8fe" if case["noted"] else "")

@@ -30,7 +30,7 @@ def collect_and_check(screen: Screen, desk: Desk, title: str, intro: str, drill:
             typed = "" if drill_with_passphrase(screen, desk, drill) == "p" else None
         else:
             # Words that were found can be wrong, although the checksum finds nothing.
-            told = say("damaged.too_few") if any(it.is_repaired for it in desk.papers) else too_few
+            told = say("damaged.too_few") if any(it.is_doubtful for it in desk.papers) else too_few
             typed = ask_for_more(screen, desk, say("check.done.few"), told)
 
 
@@ -72,12 +72,14 @@ def _tell(screen: Screen, desk: Desk, verdict: Verdict, noted: str) -> str:
     if _is_proved(desk, verdict, result):
         screen.hold("")
         desk.written = ""
+    if result == "good":
+        desk.prove(verdict.names)
     return ask_next(screen, NEXT[result])
 
 
 def _tell_repaired(screen: Screen, desk: Desk, verdict: Verdict, result: str) -> None:
     """Says what a drill shows of the papers of which words were found and not read."""
-    repaired = [paper for paper in desk.papers if paper.is_repaired]
+    repaired = [paper for paper in desk.papers if paper.is_doubtful]
     tried = [paper for paper in repaired if paper.name in verdict.names]
     right = tried if result == "good" else []
     # A quorum that wasn't tried may be right.
@@ -101,7 +103,7 @@ def _tell_written(screen: Screen, desk: Desk, verdict: Verdict, result: str) -> 
 
 def _is_proved(desk: Desk, verdict: Verdict, result: str) -> bool:
     """Whether a drill shows that all words of damaged papers are right. A paper that was written anew may have been taken out."""
-    repaired = [paper for paper in desk.papers if paper.is_repaired]
+    repaired = [paper for paper in desk.papers if paper.is_doubtful]
     is_there = not desk.written or any(paper.is_rewritten and paper.name in verdict.names for paper in desk.papers)
     return result == "good" and is_there and all(paper.name in verdict.names for paper in repaired)
 

@@ -51,7 +51,7 @@ def collect(screen: Screen, desk: Desk, title: str, intro: str, task: str = "", 
 
 def said_row(desk: Desk, paper: Paper) -> str:
     """Says what a paper is that is here."""
-    return say("collect.row.repaired" if paper.is_repaired else "collect.row", name=label(desk, paper), words=len(paper.words))
+    return say("collect.row.repaired" if paper.is_doubtful else "collect.row", name=label(desk, paper), words=len(paper.words))
 
 
 def _collect_one(screen: Screen, desk: Desk, title: str, entry: Entry, task: str, typed: str) -> bool:
@@ -165,11 +165,11 @@ def _name_of(line: str) -> str:
 def ask_for_more(screen: Screen, desk: Desk, title: str, told: str, task: str = "") -> Optional[str]:
     """Says that the papers aren't enough, and what is missing. Returns what the owner has typed of the next paper, or None to end."""
     screen.clear(title)
-    sound = [paper.name for paper in desk.papers if not paper.is_repaired]
+    sound = [paper.name for paper in desk.papers if not paper.is_doubtful]
     if sound:
         screen.tell(say("check.sound", papers=counted(len(sound), "paper"), names=", ".join(sound)))
     for paper in desk.papers:
-        if paper.is_repaired:
+        if paper.is_doubtful:
             screen.tell(said_row(desk, paper), "bad")
     screen.tell(told)
     show_status(screen, desk.papers, task)

@@ -23,8 +23,8 @@ IDENTIFYING = 4
 @dataclass(frozen=True)
 class Paper:
     """A paper that the library found sound: its words, and what they say of the backup. `is_repaired` says that the library found some
-    of the words, and `is_rewritten` that the owner has written the paper anew since then. `is_answered` says that its group needs one
-    paper, as only the owner said."""
+    of the words, `is_proved` that a drill has shown that these are right, and `is_rewritten` that the owner has written the paper anew
+    since then. `is_answered` says that its group needs one paper, as only the owner said."""
 
     line: str = field(repr=False)
     name: str
@@ -37,6 +37,7 @@ class Paper:
     member_threshold: int
     is_extendable: bool = False
     is_repaired: bool = False
+    is_proved: bool = False
     is_rewritten: bool = False
     is_answered: bool = False
 
@@ -44,6 +45,11 @@ class Paper:
     def is_possible(self) -> bool:
         """Whether a backup can have this paper: its group is one of the groups that it says the backup has."""
         return self.group < self.group_count
+
+    @property
+    def is_doubtful(self) -> bool:
+        """Whether words were found, and nothing shows yet that they are right."""
+        return self.is_repaired and not self.is_proved
 
     @property
     def words(self) -> List[str]:
@@ -72,8 +78,8 @@ def is_same(one: Paper, other: Paper) -> bool:
 
 
 def resembles(one: Sequence[str], other: Sequence[str]) -> bool:
-    """Whether two rows of words are most likely of one paper: they have most words in common. Papers of one backup share only the first
-    words. A word may be cut to the letters that identify it."""
+    """Whether two rows of words are most likely of one paper: they have most words in common. Most papers of one backup share only the
+    first words. A word may be cut to the letters that identify it."""
     its, others = ({word[:IDENTIFYING] for word in words} for words in (one, other))
     return 2 * len(its & others) > min(len(its), len(others))
 
@@ -164,14 +170,14 @@ class Desk:
     @property
     def unsure(self) -> List[Paper]:
         """The only paper of each backup that has but one, if it wasn't read in full. A word that was found may make it another backup."""
-        return [paper for [paper, *others] in self.backups.values() if paper.is_repaired and not others]
+        return [paper for [paper, *others] in self.backups.values() if paper.is_doubtful and not others]
 
     def doubtful(self, paper: Paper) -> List[Paper]:
         """Returns the papers here that a paper doesn't fit, if words of each of them were found: they may be wrong."""
         if self.is_apart(paper):
             return self.unsure
         others = [it for it in self.backups.get(paper.id, []) if not fit(it, paper)]
-        return others if all(it.is_repaired for it in others) else []
+        return others if all(it.is_doubtful for it in others) else []
 
     def add(self, paper: Paper) -> bool:
         """Takes a paper, or raises the library's refusal of one that doesn't belong to the others of its backup. Returns whether it is a new
@@ -197,6 +203,15 @@ class Desk:
         self._kept = [it for it in self._kept if it is not paper]
         if self._kept and not self.papers:
             self._id = self._kept[-1].id
+
+    def prove(self, names: Sequence[str]) -> None:
+        """Takes note that these papers of the backup are right, as a drill has shown."""
+        right = [it for it in self.papers if it.name in names]
+
+        def proved(paper: Paper) -> Paper:
+            return dataclasses.replace(paper, is_proved=True) if any(is_same(paper, it) for it in right) else paper
+
+        self._kept, self._anew = [*map(proved, self._kept)], [*map(proved, self._anew)]
 
     def leave_out(self, words: Sequence[str]) -> None:
         """Takes note of a paper that was begun, and that isn't taken. A few words are no paper."""
