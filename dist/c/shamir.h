@@ -833,8 +833,8 @@ void shamir_wipe(void *buffer, size_t buffer_bytes);
  * field of the struct changes. If the code is 1 or 4, text may be changed.
  *
  * The field backup has the lines of the backup of the mnemonic that came last. Calls that take lines take them.
- * shamir_papers_recover calls shamir_recover with them. A NUL ends its passphrase and its fingerprint. If the fingerprint is NULL,
- * nothing is compared, and an empty one is refused with 44. Every exponent is allowed.
+ * shamir_papers_recover calls shamir_recover with them. A NUL ends its passphrase and its fingerprint. If the passphrase is NULL,
+ * there is none. If the fingerprint is NULL, nothing is compared, and an empty one is refused with 44. Every exponent is allowed.
  *
  * These functions stand in the header alone. The caller clears the buffer.
  *
@@ -940,11 +940,10 @@ SHAMIR_INLINE const char *shamir_expected(const char *expected) { return expecte
 SHAMIR_INLINE SHAMIR_STRUCT(1) shamir_answer shamir_papers_recover(
     const shamir_papers *papers, const char *passphrase, const char *expected, uint8_t *secret, size_t secret_bytes)
 {
-    const char *noted = shamir_expected(expected);
+    const char *key = passphrase == NULL ? "" : passphrase, *noted = shamir_expected(expected);
 
     return shamir_recover(
-        papers->backup, papers->backup_bytes, passphrase, strlen(passphrase), SHAMIR_EXPONENT_MAX, noted, strlen(noted), secret,
-        secret_bytes);
+        papers->backup, papers->backup_bytes, key, strlen(key), SHAMIR_EXPONENT_MAX, noted, strlen(noted), secret, secret_bytes);
 }
 
 /*
@@ -952,7 +951,7 @@ SHAMIR_INLINE SHAMIR_STRUCT(1) shamir_answer shamir_papers_recover(
  *
  * shamir_drill_start takes mnemonics as shamir_drill does, a passphrase and the noted fingerprint, each of which a NUL ends, and a
  * room of about 65536 bytes for parts of the listing, in which there is no secret. All of these must stay until the drill ends.
- * Every exponent is allowed. A fingerprint that is NULL or empty is refused with 44.
+ * Every exponent is allowed. If the passphrase is NULL, there is none. A fingerprint that is NULL or empty is refused with 44.
  *
  * shamir_drill_next goes on to the next quorum, and returns 1. If no quorum is left, or if the library refuses, it returns 0, and the
  * field answer says which. The refusals are those of shamir_drill. A program can stop after each quorum. A later drill goes on after
@@ -991,7 +990,7 @@ SHAMIR_INLINE shamir_drilling shamir_drill_start(
     memset(&drilling, 0, sizeof drilling);
     drilling.lines = lines;
     drilling.lines_bytes = lines_bytes;
-    drilling.passphrase = passphrase;
+    drilling.passphrase = passphrase == NULL ? "" : passphrase;
     drilling.expected = expected;
     drilling.text = text;
     drilling.text_bytes = text_bytes;
