@@ -451,7 +451,7 @@ export const TEXTS = {
   "recover.other.none": "Without a passphrase, the papers give a secret with another fingerprint than the {noted} that you typed. First compare that with your note. If it is right, the backup most likely has a passphrase: try again, and type it. Or the papers are of another backup, or you noted the fingerprint wrongly. Throw no paper away. The fingerprint here is:",
   "recover.unnoted": "As you noted no fingerprint, the page can't say whether the secret is yours: a mistyped passphrase gives another one. To find out, restore a wallet on another device from these papers, with the same passphrase: it shows your addresses only if the secret is yours. The fingerprint here is:",
   "recover.next.title": "What to do now",
-  "recover.next": "To get the wallet back, type the papers into a wallet that knows SLIP-0039, with the same passphrase. Only 'Check papers' tries each paper that you typed. Then end here, and put the papers back into their places and, unless one alone is enough, never enough of them in one. If you found that one is destroyed, 'Replace a paper' may write it again from the others. If one is lost, or somebody else may have it, 'Change the plan' makes new papers.",
+  "recover.next": "Only 'Check papers' tries each paper that you typed. To get the wallet back, type the papers into a wallet that knows SLIP-0039, with the same passphrase. Then end here, and put the papers back into their places and, unless one alone is enough, never enough of them in one. If you found that one is destroyed, 'Replace a paper' may write it again from the others. If one is lost, or somebody else may have it, 'Change the plan' makes new papers.",
   "digits.title": "The digits of the secret",
   "digits.what": "The digits are the seed from which a wallet derives its keys by BIP-32. Give them only to this page, or to a program that asks for a BIP-32 seed, on a machine that is offline. Never enter them as BIP-39 words. Whoever sees them has your money.",
   "digits.show": "Show the digits",
@@ -634,7 +634,7 @@ export const TEXTS = {
 
   "refused.11": "Word {first} isn't in the word list. Compare it with your paper: the first 4 letters identify each word.",
   "refused.12": "No paper has this number of words: {first}. A word was left out or typed twice, or 2 papers were typed as one.",
-  "refused.13": "The words don't belong together, and more than one of them is wrong, or 2 changed places. Compare each word with your paper. If the paper hasn't as many words as there are fields, change their number above, and paste one paper at a time. If they agree, the paper itself is wrong: 'Read a damaged paper' on the first screen may find up to 3 words. Or empty the fields, and leave this paper out.",
+  "refused.13": "The words don't belong together: more than one of them is wrong, 2 changed places, or several papers were pasted as one. If the paper hasn't as many words as there are fields, change their number above. Otherwise compare each word with your paper. If all agree, the paper itself is wrong: 'Read a damaged paper' on the first screen may find up to 3 words. Or empty the fields, and leave this paper out.",
   "refused.14": "The words are all right, but a faulty program made this paper. Leave it out, recover without it, and make a new backup.",
   "refused.15": "The words are all right, but a faulty program made this paper: it needs more groups than there are. Leave it out, recover without it, and make a new backup.",
   "refused.17": "No paper has these words.",
