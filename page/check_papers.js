@@ -6,7 +6,7 @@ import { askPassphrase } from "./passphrase.js";
 import { saidRefusal } from "./refusals.js";
 import { resultOf } from "./result.js";
 import { counted, formOf, say } from "./say.js";
-import { setStep, setSteps } from "./screen.js";
+import { setStep, setSteps, setUnfinished } from "./screen.js";
 
 /** @typedef {import("./client.js").Desk} Desk */
 /** @typedef {import("./desk.js").Status} Status */
@@ -100,6 +100,7 @@ export async function drillWithPassphrase(desk, status, kinds, { title, passphra
     // If a drill gives the noted fingerprint, the copies of damaged papers that it tried are right.
     if (verdict.isEqual) await desk.ask("prove", { names: verdict.names });
     const isKept = hasDamaged && (await desk.ask("hasCopies"));
+    if (hasDamaged) setUnfinished(isKept ? "clear.repaired" : "");
     const answer = await tellVerdict(verdict, noted, { status, kinds, left: await saidLeftOut(desk), isKept });
     if (answer !== "again") return answer;
     fault = "";

@@ -265,8 +265,11 @@ export class PaperEntry {
     this.#isMissing = false;
     this.#answer.textContent = text;
     this.#answer.classList.toggle("fault", isFault);
+    this.element.style.setProperty("--said", `${Math.ceil(this.#answer.getBoundingClientRect().height) + 1}px`);
     // On a phone, the fields and what is below them are higher than the screen.
     if (text !== "") this.#answer.scrollIntoView({ block: "nearest" });
+    // The answer may cover the field that has the focus.
+    if (isFault && this.#grid.contains(document.activeElement)) document.activeElement?.scrollIntoView({ block: "nearest" });
     announce(text);
   }
 

@@ -6,7 +6,7 @@ import { leaveEntry, PaperEntry, USUAL_WORDS } from "./paper_entry.js";
 import { saidTakesAlone } from "./plan.js";
 import { saidError, wordsToLookAt } from "./refusals.js";
 import { counted, say } from "./say.js";
-import { setStep, setSteps, setTouched, show } from "./screen.js";
+import { setStep, setSteps, setTouched, setUnfinished, show } from "./screen.js";
 import { shownWords, writeAndTypeBack } from "./show_paper.js";
 import { isOpen } from "./spelling.js";
 
@@ -28,8 +28,10 @@ export async function readDamaged(desk) {
   do {
     setStep(1);
     const fit = await askWhatIsRead(desk);
-    if (fit) await writeAndTypeBack(desk, { index: fit.index, name: fit.kind.name, takes: saidTakesAlone(fit.kind) }, fit.kind.words, 2);
-    else if ((await desk.ask("backups")).length === 0) return;
+    if (fit) {
+      await writeAndTypeBack(desk, { index: fit.index, name: fit.kind.name, takes: saidTakesAlone(fit.kind) }, fit.kind.words, 2);
+      setUnfinished("clear.repaired");
+    } else if ((await desk.ask("backups")).length === 0) return;
   } while (await collectAndCheck(desk, what, () => [paragraph(say("damaged.too_few"), "note")]));
 }
 

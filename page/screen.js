@@ -4,7 +4,7 @@ import { estimated } from "./estimate.js";
 import { say } from "./say.js";
 
 /** @typedef {import("./dom.js").Child} Child */
-/** @typedef {"" | "clear.unfinished" | "clear.replaced" | "clear.changed"} Unfinished the key of what is said before half written papers are cleared */
+/** @typedef {"" | "clear.unfinished" | "clear.replaced" | "clear.changed" | "clear.repaired"} Unfinished the key of what is said before unfinished papers are cleared */
 
 const main = /** @type {HTMLElement} */ (document.getElementById("main"));
 const live = /** @type {HTMLElement} */ (document.getElementById("live"));

@@ -5,12 +5,12 @@ const HEADING = /slip-?0*39|paper\s+\d+\.\d+/gi;
 
 /**
  * Returns the words of a text: capitals become small letters, and numbers, commas and line feeds separate. The heading of a paper is
- * skipped.
+ * skipped. A question mark stays at its place, so that no word takes that of one that can't be read.
  *
  * @param {string} text
  */
 export function wordsOf(text) {
-  return separated(text, /[^\p{L}\p{M}]+/u);
+  return separated(text, /[^\p{L}\p{M}?]+/u);
 }
 
 /**

@@ -311,8 +311,9 @@ export class WordField {
     if (!isWrong) return;
     this.field.setAttribute("aria-invalid", "true");
     const found = readings(this.#list, this.word, rest);
-    const offered = found.length ? found.slice(0, OFFERED) : this.#nearest();
-    const key = found.length ? "entry.several" : this.word.includes("?") && this.#isDamaged ? "damaged.mark" : "entry.unknown";
+    const isUnread = this.word.includes("?");
+    const offered = found.length ? found.slice(0, OFFERED) : isUnread && !this.#isDamaged ? [] : this.#nearest();
+    const key = found.length ? "entry.several" : !isUnread ? "entry.unknown" : this.#isDamaged ? "damaged.mark" : "entry.unread";
     const told = say(key, { number: this.#at + 1 });
     if (isNew) announce(`${told} ${offered.join(", ")}`);
     this.#offers.append(

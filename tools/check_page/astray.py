@@ -13,7 +13,7 @@ def leave_out(page, papers):
     page.wait_text("If the paper says the same, it is miswritten: 'Read a damaged paper'")
     page.push(say("entry.empty"))
     paste(page, swapped(papers[4], 9))
-    page.wait_text("If they agree, the paper itself is wrong")
+    page.wait_text("If all agree, the paper itself is wrong")
     page.push(say("entry.empty"))
 
 
@@ -188,7 +188,7 @@ def check_alike(page, see):
     write_anew(page, papers[1])
     page.wait_text(say("collect.row.repaired", name="0.0", words=20), say("collect.row.repaired", name="1.0", words=20))
     see("two damaged papers with the same value")
-    clear(page)
+    clear(page, say("clear.repaired"))
     papers = papers_of("2of3")
     wrong = changed(papers[0], id=(plain.parse(papers[0].encode())["id"] + 1) % 2**15)
     begin(page, "damaged")

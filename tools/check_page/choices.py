@@ -359,12 +359,14 @@ def check_phone(page, see):
 
 def check_low(page, see):
     """On a low screen, what is said of a wrong word in the middle of a paper is in sight together with the word."""
-    for size, line, word in [((1280, 800), LONG, 16), ((1366, 625), SOUND_PAPER, 10), ((390, 664), SOUND_PAPER, 9), ((640, 400), SOUND_PAPER, 9)]:
+    for size, line, word in [((1280, 800), LONG, 16), ((1366, 625), SOUND_PAPER, 10), ((390, 664), SOUND_PAPER, 9), ((320, 568), SOUND_PAPER, 9), ((640, 400), SOUND_PAPER, 9)]:
         page.size(*size)
         begin(page, "check")
         paste(page, with_words(line, {word: "lend"}))
         page.wait_text(said(18, first=word))
-        page.wait(lambda: page.evaluate(ABOVE), f"what is said of word {word} above it, on a screen of {size}")
+        for steps in range(word - 1):
+            page.wait(lambda: page.evaluate(ABOVE), f"what is said of word {word} above word {word - steps}, on a screen of {size}")
+            page.press_with("Shift", "Tab")
         see(f"wrong word on a screen of {size}")
         clear(page)
     page.size(1200, 900)

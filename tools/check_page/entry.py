@@ -188,6 +188,15 @@ def deny(page, answer, line):
         raise Failed(f"after {say(answer)!r}, the page shows {found_words(page)!r}, and the fields {typed!r}")
 
 
+def check_open(page, see):
+    """Where no word is found, a question mark stays at its place, and the page says which task finds words."""
+    begin(page, "check")
+    paste(page, with_words(SOUND_PAPER, {6: "?"}))
+    page.wait_text(say("refused.11", first=6), say("entry.unread", number=6))
+    see("a word that can't be read where none is found")
+    clear(page)
+
+
 def check_damaged(page, see):
     """What is found of a damaged paper, and each refusal. Words in fields that the page marks itself."""
     begin(page, "damaged")
@@ -252,7 +261,7 @@ def check_known_count(page, see):
             raise Failed("the number of words is asked for though nothing is typed of a paper that is typed back")
     paste(page, SOUND_PAPER)
     page.wait_title(say("damaged.check.title"))
-    clear(page)
+    clear(page, say("clear.repaired"))
 
 
-CHECKS = [check_unread, check_keys, check_habits, check_guessed, check_mistyped, check_kept, check_damaged, check_known_count]
+CHECKS = [check_unread, check_keys, check_habits, check_guessed, check_mistyped, check_kept, check_open, check_damaged, check_known_count]

@@ -93,9 +93,11 @@ def end(page):
 
 
 def clear(page, is_asked=False):
-    """Leaves a task before its end. `is_asked` says that the page asks whether that is meant, since papers are half written."""
+    """Leaves a task before its end. `is_asked` says that the page asks whether that is meant, since papers aren't finished. It can be what
+    the page says then."""
     page.push(say("clear"))
     if is_asked:
+        page.wait_text(*[is_asked] if isinstance(is_asked, str) else [])
         page.push(say("clear.yes"))
     page.wait_title(say("home.title"))
 

@@ -1,14 +1,17 @@
 """How the program ends: by the owner at each question, by a signal, with the terminal, and where there is none."""
 import concurrent.futures
 import os
+import pathlib
 import pty
 import re
+import shutil
 import signal
 import subprocess
 import sys
+import tempfile
 import termios
 
-from hands import END, PATIENCE, Failed, Interrupted, environment, habits, say
+from hands import END, PATIENCE, ROOT, Failed, Interrupted, environment, habits, say
 from tasks import TASKS, check_new, end_by_keys, paper_prompt, started
 
 import plain
@@ -229,6 +232,20 @@ def check_no_terminal():
             raise Failed(f"{options} gives the status {done.returncode}")
 
 
+def check_early():
+    """The script that starts the program ignores Ctrl-C, which Python would answer with a traceback until the program heeds it."""
+    with tempfile.TemporaryDirectory() as folder:
+        shutil.copy(ROOT / "packaging" / "shamir-papers", folder)
+        library, stub = pathlib.Path(folder, "bindings", "python", "shamir", "library.so"), pathlib.Path(folder, "stub")
+        library.parent.mkdir(parents=True)
+        library.touch()
+        stub.write_text("#!/bin/sh\nkill -INT $$\necho alive\n")
+        stub.chmod(0o755)
+        done = subprocess.run([f"{folder}/shamir-papers"], capture_output=True, text=True, env={**os.environ, "PYTHON": str(stub)})
+    if done.stdout != "alive\n":
+        raise Failed(f"Ctrl-C while Python starts gives the status {done.returncode}")
+
+
 def check_menu():
     """Without a task, the program asks for one, by its number or its word. Help answers questions."""
     with started() as owner:
@@ -369,6 +386,7 @@ CHECKS = [
     check_stopped,
     check_closed,
     check_no_terminal,
+    check_early,
     check_menu,
 ]
 

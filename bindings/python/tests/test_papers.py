@@ -1,9 +1,11 @@
 """Tests parts of `shamir.papers` without a terminal: the entry of words over generated typing, plans, quorums, what
 outcomes say together, and the sentences. tools/check_papers tests the program at a terminal."""
 import dataclasses
+import os
 import pathlib
 import random
 import re
+import signal
 import sys
 import unittest
 import unittest.mock
@@ -18,6 +20,7 @@ if sys.version_info < (3, 10):
 
 import shamir  # noqa: E402
 import shamir.papers  # noqa: E402
+from shamir.papers import safety  # noqa: E402
 from shamir.papers.desk import Desk, paper_of  # noqa: E402
 from shamir.papers.drill import said_total, verdict_of  # noqa: E402
 from shamir.papers.entry import Entry  # noqa: E402
@@ -421,6 +424,8 @@ class SpellingTests(unittest.TestCase):
         self.assertEqual(parts_of("SLIP-0039, Paper 0.1: 1. shadow"), [(1, "shadow")])
         for name in ["0.0 ", "0.2: ", "(0.2) ", "1.15\n"]:
             self.assertEqual(parts_of(f"{name}shadow 2.acid"), [(None, "shadow"), (2, "acid")])
+        # Word 10 can't be read.
+        self.assertEqual(parts_of("9.surface 10.11.strike"), [(9, "surface"), (11, "strike")])
         # A longer number or word is read as far as it can matter, since neither may take long.
         self.assertEqual(parts_of("7" * 5000 + "a" * 60000), [(int("7" * 20), "a" * 20)])
         self.assertEqual(parts_of(""), [])
@@ -430,7 +435,7 @@ class SpellingTests(unittest.TestCase):
             self.assertEqual(numbers_of(text), wanted)
 
     def test_idle_numbers(self):
-        for text, is_idle in [("7 acid", False), ("7. ?, 12) acid", False), ("acid", False), ("", False), ("7", True), ("7 acid 8", True), ("6 6 acid", True), ("12.", True), ("SLIP-0039 Paper 0.1 acid", False), ("0.2 acid", False)]:
+        for text, is_idle in [("7 acid", False), ("7. ?, 12) acid", False), ("acid", False), ("", False), ("7", True), ("7 acid 8", True), ("6 6 acid", True), ("12.", True), ("SLIP-0039 Paper 0.1 acid", False), ("0.2 acid", False), ("10.11.acid", True)]:
             self.assertEqual(has_idle_number(text), is_idle, text)
 
     def test_continued(self):
@@ -557,6 +562,16 @@ class VerdictTests(unittest.TestCase):
         right, wrong = [outcome("0.0+0.1", "a")], [outcome("0.0+0.2", "b"), outcome("0.1+0.2", "b")]
         self.assertEqual(suspects(right, wrong), ["0.2"])
         self.assertEqual(suspects(right, []), [])
+
+
+class SafetyTests(unittest.TestCase):
+    def test_a_new_start_takes_ctrl_c_later(self):
+        """While the program starts anew, Ctrl-C waits, as Python would answer it with a traceback."""
+        with unittest.mock.patch.dict(os.environ), unittest.mock.patch.object(os, "execve") as started:
+            os.environ.pop(next(iter(safety.OVERWRITING)), None)
+            safety.start_overwriting()
+            self.assertIn(signal.SIGINT, signal.pthread_sigmask(signal.SIG_UNBLOCK, [signal.SIGINT]))
+        started.assert_called_once()
 
 
 class TextTests(unittest.TestCase):
