@@ -279,10 +279,10 @@ IsBehind {R} told remaining files reader input = (secret passphrase : Option (Li
     × TakesValues told remaining files secret passphrase reader behind × IsAllOf (remaining behind) input
 
 module _ {R E : Type 0} (told : Told) (remaining : R → Option (List ℕ)) (contents : E → Option (List ℕ)) where
-  -- With exit status 0, exactly the lines of `said_of` are said. For random bytes that would be typed it is that line. With 1 it is the
-  -- line about a passphrase that is typed, the line about mnemonics if the command began to read them, for which its texts had to be right,
-  -- and one message, or what is said once the input is read. If the text of the plan has another form than a plan, it is that message, and
-  -- to a person which form a plan has. With 2 it is the line about such a passphrase, and what is wrong with a value.
+  -- With exit status 0, exactly the lines of `said_of` are said. For random bytes that would be typed it is that line. With 1 it is the line
+  -- about a passphrase that is typed, the line about mnemonics if the command began to read them, for which its texts but the passphrase had
+  -- to be right, and one message, or what is said once the input is read. If the text of the plan has another form than a plan, it is that
+  -- message, and to a person which form a plan has. With 2 it is the line about such a passphrase, and what is wrong with a value.
   pub record IsSaidOfCall (terminals : Terminals) (call : Call) (reader : R) (old new : Messages E) (status : ℕ) : Type 0 where
     pub done : status ≡ 0 → (input : Input) × IsBehind told remaining call.files reader input × Says contents old new (said_of terminals call input)
     pub typed : IsTyped terminals.source call.job → Says contents old new typed_line

@@ -242,7 +242,8 @@ fn by_texts<R: Read + Drop, W: Write + Drop, E: Write, P: Watch>(
 
 /// Whether mnemonics are about to be typed.
 fn asks(notes: Notes, work: &Work) -> bool
-    ensures { (result ≡ notes.types_mnemonics) ⊎ ((result ≡ false) × HasBadPassphrase work.now) }
+    ensures asked { (result ≡ notes.types_mnemonics) ⊎ ((result ≡ false) × HasBadPassphrase work.now) }
+    ensures begun { IsTrue result → HasBadPassphrase work.now → ⊥ }
 {
     notes.types_mnemonics && work.begins()
 }

@@ -10,8 +10,8 @@ use crate::output::{Line, WriteFailed, write_text};
 use crate::slices::{TooShort, put};
 use std::io::Write;
 
-/// Writes so many lines, of which `line` gives each, up to the first write that fails. The caller keeps `failures()`
-/// below `u64::MAX`.
+/// Writes so many lines, of which `line` gives each, up to the first write that fails. `line` takes each number below
+/// `count`, and the caller keeps `failures()` below `u64::MAX`.
 pub fn write_lines<W: Write, F: Fn(u16) -> Line>(
     output: &mut Counting<W>,
     count: u16,
@@ -29,7 +29,7 @@ pub fn write_lines<W: Write, F: Fn(u16) -> Line>(
 }
 
 /// Puts so many lines, of which `line` gives each, at the front of a slice, if they fit. It returns how many bytes they
-/// have. `line` gives the same bytes each time that it's asked for a line.
+/// have. `line` takes each number below `count`, and gives the same bytes each time that it's asked for a line.
 pub fn put_lines<F: Fn(u16) -> Line>(
     text: &mut [u8],
     count: u16,

@@ -33,7 +33,7 @@ returns-clause-said g c =
     said_by_work g.E.Write.contents g.R.Read.remaining g.W.Write.contents c.args.job c.args.texts.secret.now c.args.texts.passphrase.now
     c.args.notes.is_attended c.args.notes.types_mnemonics c.args.notes.tells_of_none c.asks.result c.in-Ok.work run.answer c.args.input run.input
     c.args.output run.output c.tell_answer.result c.args.errors.now c.say_if.new.self c.by_lines-finished.new.errors c.tell_answer.new.errors
-    c.in-Ok.ensures.work c.asks.ensures c.by_lines-finished.ensures.delivers c.say_if.ensures.said c.by_lines-finished.ensures.said
+    c.in-Ok.ensures.work c.asks.ensures.asked c.by_lines-finished.ensures.delivers c.say_if.ensures.said c.by_lines-finished.ensures.said
     c.tell_answer.ensures.said c.tell_answer.ensures.ends
 
 -- ---- how many quorums are told of
