@@ -125,7 +125,7 @@ async function begin(task, tried) {
   try {
     await task.run(own);
   } catch (error) {
-    // No error of the page holds a secret. Only that it failed is told, and what becomes of papers that are half written.
+    // No error of the page holds a secret. Only that it failed is told, and what becomes of unfinished papers.
     const half = unfinishedKey() === "" ? null : paragraph(say(unfinishedKey()), "bad");
     if (desk === own) await ask(say("fault.title"), [paragraph(say("fault.other"), "bad"), half], [{ key: "end", label: say("end"), kind: "primary" }]);
   }
@@ -152,7 +152,7 @@ async function clearAll(tried) {
 }
 
 /**
- * Clears everything, or asks first if papers are half written. Meanwhile the page shows no secret, but what was typed stays in its
+ * Clears everything, or asks first if papers are unfinished. Meanwhile the page shows no secret, but what was typed stays in its
  * fields.
  *
  * @param {Desk} tried

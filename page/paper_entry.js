@@ -72,6 +72,7 @@ export class PaperEntry {
       element("div", { class: "buttons" }, this.#reading, button(say("entry.empty"), () => this.#emptied()), this.#restoring),
     );
     this.#counts.append(...quick);
+    new ResizeObserver(() => this.#measure()).observe(this.#answer);
     // Before the field itself hears of it, since the field may ask for a new answer.
     this.element.addEventListener("input", () => this.#changed(), true);
     this.setCount(count);
@@ -265,12 +266,17 @@ export class PaperEntry {
     this.#isMissing = false;
     this.#answer.textContent = text;
     this.#answer.classList.toggle("fault", isFault);
-    this.element.style.setProperty("--said", `${Math.ceil(this.#answer.getBoundingClientRect().height) + 1}px`);
+    this.#measure();
     // On a phone, the fields and what is below them are higher than the screen.
     if (text !== "") this.#answer.scrollIntoView({ block: "nearest" });
     // The answer may cover the field that has the focus.
     if (isFault && this.#grid.contains(document.activeElement)) document.activeElement?.scrollIntoView({ block: "nearest" });
     announce(text);
+  }
+
+  /** Tells the fields how much of the screen the answer can cover. */
+  #measure() {
+    this.element.style.setProperty("--said", `${Math.ceil(this.#answer.getBoundingClientRect().height) + 1}px`);
   }
 
   /** Returns the words as the bytes of a line. */

@@ -41,7 +41,7 @@ export function setTouched(is) {
   touched = is;
 }
 
-/** Returns the key of what is said before clearing, if papers are half written, so that clearing would lose them, or an empty text. */
+/** Returns the key of what is said before clearing, if papers are unfinished, or an empty text. */
 export function unfinishedKey() {
   return unfinished;
 }

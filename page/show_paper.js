@@ -81,8 +81,9 @@ export function typeBack(desk, { index, name, shown = name }, place, words) {
           tellNext(say("back.same", { name: shown }));
           resolve(true);
         }
-        // Nothing of another paper can stay. The right one is told on the next screen.
-        return { isTaken: true, isFault: true, text: isSame ? "" : say(isForeign ? "back.foreign" : "back.other", { name: shown, typed: kind.name }) };
+        // Nothing of another paper can stay. The right one is told on the next screen, and stays in its fields until then, with the focus:
+        // letters of its last word may still come.
+        return { isTaken: !isSame, isFault: true, text: isSame ? "" : say(isForeign ? "back.foreign" : "back.other", { name: shown, typed: kind.name }) };
       } catch (error) {
         return { isTaken: false, text: saidError(error, "back"), words: wordsToLookAt(error) };
       }

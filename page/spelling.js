@@ -180,14 +180,14 @@ export function endsBefore(list, letters, whole, rest) {
 const MISTYPED_MAX = 2;
 
 /**
- * Whether letters that are ended, and that make no word, are most likely the rest of the word before, mistyped.
+ * Whether letters that are ended, and that make no word, are most likely the rest of the word before, mistyped. A question mark is none.
  *
  * @param {readonly string[]} list
  * @param {string} letters
  * @param {Rest} rest
  */
 export function isMistypedRest(list, letters, rest) {
-  if (letters === "" || rest.letters === "" || beginning(list, letters).length === 1) return false;
+  if (letters === "" || letters.includes("?") || rest.letters === "" || beginning(list, letters).length === 1) return false;
   if (letters.length > rest.letters.length + 1) return false;
   return distance(letters, rest.letters) <= MISTYPED_MAX;
 }

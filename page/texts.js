@@ -130,7 +130,7 @@ export const TEXTS = {
   "entry.undo": "Bring these words back",
   "entry.unknown": "Word {number} isn't in the word list. Do you mean:",
   "entry.several": "Word {number} isn't complete. Some of the words that begin so:",
-  "entry.unread": "A word that can't be read isn't found here. 'Read a damaged paper' on the first screen may find word {number}.",
+  "entry.unread": "A question mark stands for no word here.",
   "entry.missing": "Word {number} is missing: {count} of {fields} words are typed. If it can't be read, 'Read a damaged paper' on the first screen may find it. If the paper has another number of words, change it above.",
   "entry.nothing": "No word is typed yet.",
   "entry.mistyped": "The letters that you typed after word {number} make no word, and look like its end. So the page left them out. Compare word {number} with your paper.",
@@ -642,6 +642,7 @@ export const TEXTS = {
   "refused.17": "No paper has these words.",
   "refused.18": "The words don't belong together. If only one of them is wrong, it is word {first}. Look at word {first} on your paper, and type it again. If the paper says the same, it is miswritten: 'Read a damaged paper' on the first screen finds the word that was meant.",
   "refused.19": "{first} words can't be read, and at most 3 can be found.",
+  "back.refused.11": "Word {first} isn't in the word list. Compare it with your paper: the first 4 letters identify each word. If you can't read it, let the paper be shown again, and correct yours.",
   "back.refused.13": "These aren't the words that were shown: more than one of them is wrong, or 2 changed places. Compare each word with your paper. If you wrote them so, let the paper be shown again, and write it anew.",
   "back.refused.18": "These aren't the words that were shown. If only one of them is wrong, it is word {first}. Look at word {first} on your paper, and type it again. If you wrote it so, let the paper be shown again, and correct yours.",
 

@@ -79,6 +79,8 @@ export class WordField {
       input: (/** @type {InputEvent} */ event) => this.#typed(event),
       keydown: (/** @type {KeyboardEvent} */ event) => this.#pressed(event),
       paste: (/** @type {ClipboardEvent} */ event) => this.#pasted(event),
+      // Firefox leaves a field that is in part below the answer where it is.
+      focus: () => this.field.scrollIntoView({ block: "nearest" }),
       blur: () => this.#left(),
     });
     this.box = element("div", { class: "word" }, element("span", { "aria-hidden": "true", class: "number" }, String(at + 1)), this.field, this.#ahead, this.#offers);

@@ -57,7 +57,8 @@ int main(int count, char **words) try {
     const auto client = clients.find({count > 1 ? words[1] : "", count});
     std::string line;
     if (client == clients.end() || !std::getline(std::cin, line))
-        throw std::runtime_error("give make PLAN, recover FINGERPRINT, drill FINGERPRINT FILE or repair, and a line of input");
+        throw std::runtime_error(
+            "give make PLAN, recover FINGERPRINT, drill FINGERPRINT FILE or repair, and a line of input");
     client->second(line, words);
     return std::cout.flush() ? 0 : throw std::runtime_error("the output can't be written");
 } catch (const std::exception &error) {

@@ -92,8 +92,14 @@ def check_repaired(page, see):
     page.lacks(say("clear.unfinished"))
     page.push(say("clear.stay"))
     page.push(say("paper.written"))
-    type_paper(page, line)
+    *words, last = line.split()
+    page.type(" ".join([*words, last[:4]]))
     page.wait_title(say("damaged.check.title"))
+    page.type(f"{last[4:]} ")
+    page.wait(lambda: page.evaluate("[...document.querySelectorAll('.word input')].every((it) => it.value === '')"), "fields without the rest of a word")
+    page.type("acid ")
+    page.wait(lambda: page.evaluate("document.querySelector('.word input').value") == "acid", "a word in the first field")
+    page.push(say("entry.empty"))
     paste(page, changed(THREE_GROUPS[1], exponent=3))
     page.wait_text("Most likely paper 0.0 is wrong, of which words were found and not read.")
     page.lacks("is of another backup, or forged")
@@ -203,7 +209,8 @@ def check_alike(page, see):
     page.wait_title(say("check.done.good"))
     page.wait_text(say("damaged.right.one", names="0.0"))
     page.lacks(keep)
-    end(page)
+    # Nothing is in doubt, so nothing is asked.
+    clear(page)
 
 
 def check_lost(page, see):

@@ -3,7 +3,7 @@ what one paper says."""
 
 from browsers import Failed
 from refusals import said
-from samples import BAD_CHECKSUM, BIP39, FINGERPRINT, LONG, PASSPHRASE, SECRET, SOUND_PAPER, THREE_GROUPS, TWO, changed, fingerprint_of, name_of, said_kind
+from samples import BAD_CHECKSUM, BIP39, EXCHANGED, FINGERPRINT, LONG, PASSPHRASE, SECRET, SOUND_PAPER, THREE_GROUPS, TWO, changed, fingerprint_of, name_of, said_kind
 from samples import with_words
 from tasks import answer_passphrase, begin, choose_wallet, clear, create, drill, end, paste, read_paper, type_digits, type_paper, type_passphrase, write_down
 from texts import counted, say
@@ -294,6 +294,13 @@ BESIDE = """
   .every((it) => it.getBoundingClientRect().height < 2 * it.querySelector('button').getBoundingClientRect().height)
 """
 PHONE = (390, 844)
+# Low screens, each with a paper, what is said of it, and the number of the word from which Shift and Tab lead back to the first.
+LOW = [
+    ((1280, 800), with_words(LONG, {16: "lend"}), said(18, first=16), 16),
+    ((1366, 625), with_words(SOUND_PAPER, {10: "lend"}), said(18, first=10), 10),
+    *((size, with_words(SOUND_PAPER, {9: "lend"}), said(18, first=9), 9) for size in [(390, 664), (320, 568), (640, 400)]),
+    ((390, 664), EXCHANGED, said(13), 2),
+]
 # Whether what is said stands above the field that has the focus, and both are in sight.
 ABOVE = """
 ((said, field) => said.top > -1 && said.bottom <= field.top && field.bottom < innerHeight + 1)
@@ -359,13 +366,13 @@ def check_phone(page, see):
 
 def check_low(page, see):
     """On a low screen, what is said of a wrong word in the middle of a paper is in sight together with the word."""
-    for size, line, word in [((1280, 800), LONG, 16), ((1366, 625), SOUND_PAPER, 10), ((390, 664), SOUND_PAPER, 9), ((320, 568), SOUND_PAPER, 9), ((640, 400), SOUND_PAPER, 9)]:
+    for size, line, told, word in LOW:
         page.size(*size)
         begin(page, "check")
-        paste(page, with_words(line, {word: "lend"}))
-        page.wait_text(said(18, first=word))
+        paste(page, line)
+        page.wait_text(told)
         for steps in range(word - 1):
-            page.wait(lambda: page.evaluate(ABOVE), f"what is said of word {word} above word {word - steps}, on a screen of {size}")
+            page.wait(lambda: page.evaluate(ABOVE), f"what is said of a paper above its fields, {steps} fields back, on a screen of {size}")
             page.press_with("Shift", "Tab")
         see(f"wrong word on a screen of {size}")
         clear(page)

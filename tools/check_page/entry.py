@@ -191,9 +191,16 @@ def deny(page, answer, line):
 def check_open(page, see):
     """Where no word is found, a question mark stays at its place, and the page says which task finds words."""
     begin(page, "check")
-    paste(page, with_words(SOUND_PAPER, {6: "?"}))
-    page.wait_text(say("refused.11", first=6), say("entry.unread", number=6))
+    paste(page, with_words(SOUND_PAPER, {6: "?", 16: "du?"}))
+    page.wait_text(say("refused.11", first=6), say("entry.unread"))
+    if page.evaluate("document.querySelectorAll('.offers button').length"):
+        raise Failed("words are offered for a question mark where none is found")
     see("a word that can't be read where none is found")
+    page.push(say("entry.empty"))
+    # The page completes word 7 by itself, and letters of it could still come.
+    page.go_to("textbox", say("entry.word", number=1))
+    page.type(" ".join([*SOUND_PAPER.split()[:6], SOUND_PAPER.split()[6][:4], ""]).rstrip() + "? fridge ")
+    page.wait(lambda: page.evaluate("[...document.querySelectorAll('.word input')].slice(6, 9).map((it) => it.value).join()") == "length,?,fridge", "a question mark at its place")
     clear(page)
 
 

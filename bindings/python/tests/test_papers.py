@@ -422,7 +422,7 @@ class SpellingTests(unittest.TestCase):
         self.assertEqual(parts_of("7 shadow, 9. acid"), [(7, "shadow"), (9, "acid")])
         self.assertEqual(parts_of("7 shadow acid 12"), [(7, "shadow"), (None, "acid")])
         self.assertEqual(parts_of("SLIP-0039, Paper 0.1: 1. shadow"), [(1, "shadow")])
-        for name in ["0.0 ", "0.2: ", "(0.2) ", "1.15\n"]:
+        for name in ["0.0 ", "0.2: ", "(0.2) ", "1.15\n", "Paper 0.1."]:
             self.assertEqual(parts_of(f"{name}shadow 2.acid"), [(None, "shadow"), (2, "acid")])
         # Word 10 can't be read.
         self.assertEqual(parts_of("9.surface 10.11.strike"), [(9, "surface"), (11, "strike")])

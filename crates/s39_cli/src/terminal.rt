@@ -92,7 +92,7 @@ pub fn with_rest_dropped<R: Read + Drop, W: Drop, E: Write>(
     // After any status except 0, nothing is left of an input that was begun.
     ensures dropped { OnEnd result (λ status read_to written_to. status ≢ 0
         → read_to.progress ≢ Progress.Begun) }
-    // If memory runs out, nothing is read on.
+    // If memory ran out, nothing more is said.
     ensures no_memory { ended ≡ Ended.NoMemory → errors.new ≡ errors.old }
     // Nothing else is said than that the rest is dropped.
     ensures said { (errors.new ≡ errors.old) ⊎ Says E.contents errors.old errors.new rest_line }

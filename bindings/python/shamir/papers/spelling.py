@@ -17,7 +17,7 @@ DIFFERENT_MOST = 0.4
 DROP = "-"
 TAKEN_OUT = re.compile(r"-\s*(\d+\.\d+)")
 # What stands above or before the words of a paper. 'paper' is a word of the list too.
-HEADING = re.compile(r"slip-?0*39|(?:paper\s+)?\b(?:1[0-5]|\d)\.(?:1[0-5]|\d)\b(?!\.\w)")
+HEADING = re.compile(r"slip-?0*39|paper\s+\d+\.\d+|\b(?:1[0-5]|\d)\.(?:1[0-5]|\d)\b(?!\.\w)")
 # No paper has more words, and none has fewer.
 MOST, LEAST = 110, 20
 
