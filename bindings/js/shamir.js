@@ -19,8 +19,9 @@
  * Each method passes its arguments to the engine, and throws a `Refusal` if the engine refuses them. A text is a string, which
  * is encoded as UTF-8, or a Uint8Array. A secret and random bytes are a Uint8Array. Another type, an option that the call
  * doesn't know, options that are inherited, two options that can't stand together, and an array whose buffer was transferred throw a
- * TypeError. A number out of range, a string that UTF-8 can't encode, and a line feed inside a line of a list throw a RangeError. If
- * random bytes are left out and the host has no `crypto`, `create`, `resplit` and `createFromEncrypted` throw an Error.
+ * TypeError. A number that isn't whole or doesn't fit the engine's type, a string that UTF-8 can't encode, and a line feed inside a
+ * line of a list throw a RangeError. If random bytes are left out and the host has no `crypto`, `create`, `resplit` and
+ * `createFromEncrypted` throw an Error.
  *
  * Arguments are copied into the memory of the module. After each call, also after a refusal, everything that the call may have
  * written there is cleared, and so are the copies of the arguments. If a call traps, the whole memory is cleared. The next call
