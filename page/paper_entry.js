@@ -109,9 +109,9 @@ export class PaperEntry {
     this.#onChange?.();
   }
 
-  /** Moves the focus to the first field. */
+  /** Moves the focus to the first field. The letters of a word may have led to the screen of this entry. */
   focus() {
-    this.#fields[0].focus();
+    this.#fields[0].begin();
   }
 
   /**

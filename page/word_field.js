@@ -79,11 +79,11 @@ export class WordField {
       input: (/** @type {InputEvent} */ event) => this.#typed(event),
       keydown: (/** @type {KeyboardEvent} */ event) => this.#pressed(event),
       paste: (/** @type {ClipboardEvent} */ event) => this.#pasted(event),
-      // Firefox leaves a field that is in part below the answer where it is.
-      focus: () => this.field.scrollIntoView({ block: "nearest" }),
       blur: () => this.#left(),
     });
-    this.box = element("div", { class: "word" }, element("span", { "aria-hidden": "true", class: "number" }, String(at + 1)), this.field, this.#ahead, this.#offers);
+    // Firefox leaves what is in part below the answer where it is.
+    const focusin = (/** @type {Event} */ { target }) => /** @type {HTMLElement} */ (target).scrollIntoView({ block: "nearest" });
+    this.box = element("div", { class: "word", focusin }, element("span", { "aria-hidden": "true", class: "number" }, String(at + 1)), this.field, this.#ahead, this.#offers);
   }
 
   /** The word or the mark, in small letters. */
@@ -128,6 +128,12 @@ export class WordField {
   arrive() {
     this.focus();
     arrived = this;
+  }
+
+  /** Moves the focus here on a new screen. If the letters of a word led to it, more of them may come, and a key that ends it. */
+  begin() {
+    if (rest === NO_REST) this.focus();
+    else this.arrive();
   }
 
   /** Marks the word as one to look at, until it is changed. */
@@ -269,7 +275,7 @@ export class WordField {
     while (!letters.endsWith(word.slice(0, count))) count -= 1;
     if (isBySpelling && arrived === this && rest.letters !== "") seen = seenWith(seen, letters.length - count, rest);
     arrived = null;
-    rest = { letters: word.slice(count), toFour: Math.max(0, 4 - count) };
+    rest = isBySpelling ? { letters: word.slice(count), toFour: Math.max(0, 4 - count) } : NO_REST;
     this.#events.completed(this.#at, isBySpelling);
   }
 

@@ -1,5 +1,6 @@
 """The entry of a paper: keys that end a word, words that were not read, and what can be read of a damaged paper."""
 from browsers import Failed
+from choices import ABOVE
 from refusals import said
 from samples import BAD_CHECKSUM, BAD_PADDING, EXCHANGED, SOUND_PAPER, TWO, changed, name_of, with_words
 from tasks import begin, clear, end, found_words, paste, type_damaged
@@ -57,6 +58,41 @@ CLOSE = [
     "national taught academic agency biology drift envy educate antenna often craft testify pumps laden artwork length system intimate alpha regret",
     "skin pink academic agency dismiss software traveler darkness prisoner elephant depend climate reaction evaluate observe ceiling devote testify adequate survive",
 ]
+
+
+def check_next_screen(page, _):
+    """What follows the letters that end a paper, the rest of its last word and a key, changes no field of the next screen."""
+    line = changed(SOUND_PAPER, value=bytes([11] * 16))
+    for keys in ([], ["Space"], ["Enter"], ["Tab"]):
+        begin(page, "damaged")
+        paste(page, with_words(line, {6: "?"}))
+        page.push(say("damaged.write", name="0.0"))
+        page.push(say("paper.written"), to=say("back.title", name="0.0"))
+        # 'ter' begins another word.
+        page.type(line.removesuffix("ter"))
+        page.wait_title(say("damaged.check.title"))
+        page.type("ter")
+        page.press(*keys)
+        page.type("acid academic ")
+        typed = "[...document.querySelectorAll('.word input')].map((it) => it.value).join(' ').trim()"
+        page.wait(lambda: page.evaluate(typed) == "acid academic", f"the first words of the next paper, after {keys}")
+        clear(page, say("clear.repaired"))
+
+
+def check_offers(page, see):
+    """What is said of a wrong word covers no word that is offered in place of another one, when Shift and Tab lead there."""
+    page.size(1280, 720)
+    begin(page, "check")
+    paste(page, with_words(SOUND_PAPER, {3: "acadmic", 10: "frigde", 14: "hubsand"}))
+    page.wait_text(said(11, first=3))
+    page.go_to("button", say("entry.read"))
+    first = page.node("textbox", say("entry.word", number=1))
+    while not page.has_focus(first):
+        page.press_with("Shift", "Tab")
+        page.wait(lambda: page.evaluate(ABOVE), "what is said of a paper above what has the focus")
+    see("words that are offered")
+    clear(page)
+    page.size(1200, 900)
 
 
 def check_habits(page, _):
@@ -271,4 +307,4 @@ def check_known_count(page, see):
     clear(page, say("clear.repaired"))
 
 
-CHECKS = [check_unread, check_keys, check_habits, check_guessed, check_mistyped, check_kept, check_open, check_damaged, check_known_count]
+CHECKS = [check_unread, check_keys, check_next_screen, check_offers, check_habits, check_guessed, check_mistyped, check_kept, check_open, check_damaged, check_known_count]
