@@ -511,7 +511,7 @@ inline Answer<Secret> decrypt_round(const EncryptedSecret &secret, std::uint8_t 
 }
 
 /* Decrypts round by round. After each of the first three rounds, go_on(undone) gets how many of the four are undone, and returns
-   whether to go on. If it stops, there is no secret. No fingerprint is compared. */
+   whether to go on, or throws. If it stops, there is no secret. No fingerprint is compared. */
 template <class GoOn> Answer<std::optional<Secret>> decrypt_rounds(const EncryptedSecret &secret, Text passphrase, GoOn &&go_on)
 {
     EncryptedSecret text = secret;
@@ -795,8 +795,8 @@ inline shamir_answer listed(Text lines, const DrillOptions &options, const Names
 } // namespace detail
 
 /*
- * Runs a drill, and calls each(outcome, progress) for each quorum, which returns whether to go on. A mismatch is no refusal. If the drill
- * was stopped, give its last quorum as "after" to go on.
+ * Runs a drill, and calls each(outcome, progress) for each quorum, which returns whether to go on, or throws. A mismatch is no refusal. If
+ * the drill was stopped, give its last quorum as "after" to go on.
  */
 template <class Each> Answer<Drilled> drill(Text lines, const DrillOptions &options, Each &&each)
 {
