@@ -12,7 +12,7 @@ import { replacePaper } from "./replace.js";
 import { say } from "./say.js";
 import { announce, ask, askAbove, conceal, isTouched, setSteps, setTouched, setUnfinished, show, unfinishedKey } from "./screen.js";
 import { tellPaper } from "./tell_paper.js";
-import { forgetTyping } from "./word_field.js";
+import { forgetRest, forgetTyping } from "./word_field.js";
 
 /** @typedef {{key: "make" | "check" | "recover" | "replace" | "change" | "damaged" | "what" | "blank", run: (desk: Desk) => Promise<unknown>, isSecret: boolean}} Task */
 
@@ -190,6 +190,8 @@ function refuse(why) {
 function watch(tried) {
   const clear = /** @type {HTMLElement} */ (document.getElementById("clear"));
   clear.append(button(say("clear"), () => clearOrAsk(tried)));
+  // After a button, or a press of the mouse, no letter comes that belongs to the word before.
+  document.addEventListener("click", forgetRest, true);
   document.addEventListener("visibilitychange", () => {
     document.body.classList.toggle("away", document.hidden);
     if (document.hidden) conceal();

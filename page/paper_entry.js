@@ -3,7 +3,7 @@ import { button, element, labelled } from "./dom.js";
 import { say } from "./say.js";
 import { announce, askAbove } from "./screen.js";
 import { beginning, seemsBip39 } from "./spelling.js";
-import { WordField } from "./word_field.js";
+import { bringIntoSight, WordField } from "./word_field.js";
 
 /**
  * An answer to a whole paper. If it is taken, the fields are emptied for the next one. `words` are those to look at, counted from 0.
@@ -31,7 +31,7 @@ export class PaperEntry {
   // What is done if words are missing, so that nobody is asked about the paper.
   onMissing = () => {};
   // What stands directly below the answer.
-  below = element("div", { class: "buttons" });
+  below = element("div", { class: "buttons", focusin: bringIntoSight });
   #count = labelled(say("entry.count"), "number", {
     attributes: { min: "1", max: String(COUNT_MAX), class: "count", change: () => this.#counted() },
   });

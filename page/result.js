@@ -52,8 +52,9 @@ export function resultOf(verdict, isNoted, { here, repaired, written, lone, isLe
   const again = result === "good" ? written.filter(isTried) : [];
   const [right, answered] = [again.filter((name) => !lone.includes(name)), again.filter((name) => lone.includes(name))];
   const anew = isNoted ? [...form("replace.right", right, "good"), ...form("replace.lone", answered, "note")] : form("replace.tried", again, "note");
+  const isWritten = right.length > 0 && answered.length === 0;
   return {
-    title: `check.done.${titleOf(verdict, isNoted, isLeft || others.length > 0, right.length > 0)}`,
+    title: `check.done.${titleOf(verdict, isNoted, isLeft || others.length > 0, isWritten)}`,
     next: NEXT[result],
     tried: [...naming("verdict.papers", here.filter(isTried), ""), ...naming("verdict.papers.none", others, "")],
     anew: [...ofRepaired(verdict, isNoted, repaired), ...anew],
@@ -66,7 +67,7 @@ export function resultOf(verdict, isNoted, { here, repaired, written, lone, isLe
  * @param {Pick<Verdict, "result" | "hasPassphrase">} verdict
  * @param {boolean} isNoted
  * @param {boolean} isUntried whether not all papers were tried
- * @param {boolean} isWritten whether papers that were tried were written again, and are right
+ * @param {boolean} isWritten whether papers that were tried were written again, and all of them are right
  */
 function titleOf({ result, hasPassphrase }, isNoted, isUntried, isWritten) {
   if (result !== "good") return result === "other" && !hasPassphrase ? "other.none" : result;

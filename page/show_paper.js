@@ -74,10 +74,17 @@ export async function showPaper(desk, { index, name, takes, shown = name }, plac
  */
 export function typeBack(desk, { index, name, shown = name }, place, words) {
   return new Promise((resolve) => {
+    let isDone = false;
     const entry = new PaperEntry(desk.begun.words, words, async (line) => {
+      if (isDone) {
+        // Until the next screen is here, a key after the last word reads the paper once more.
+        zero(line);
+        return { isTaken: false, text: "" };
+      }
       try {
         const { kind, isSame, isForeign } = await desk.ask("typedBack", { index, line }, [line.buffer]);
         if (isSame) {
+          isDone = true;
           tellNext(say("back.same", { name: shown }));
           resolve(true);
         }

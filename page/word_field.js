@@ -37,8 +37,17 @@ let arrived = null;
 // How the typist types, as far as the last words show it.
 let seen = NOTHING_SEEN;
 
+/**
+ * Brings what gets the focus into sight. Browsers leave what is below an answer where it is.
+ *
+ * @param {Event} event
+ */
+export function bringIntoSight({ target }) {
+  /** @type {HTMLElement} */ (target).scrollIntoView({ block: "nearest" });
+}
+
 /** Forgets the letters that may still come of the last word. */
-function forgetRest() {
+export function forgetRest() {
   rest = NO_REST;
   arrived = null;
 }
@@ -81,9 +90,7 @@ export class WordField {
       paste: (/** @type {ClipboardEvent} */ event) => this.#pasted(event),
       blur: () => this.#left(),
     });
-    // Firefox leaves what is in part below the answer where it is.
-    const focusin = (/** @type {Event} */ { target }) => /** @type {HTMLElement} */ (target).scrollIntoView({ block: "nearest" });
-    this.box = element("div", { class: "word", focusin }, element("span", { "aria-hidden": "true", class: "number" }, String(at + 1)), this.field, this.#ahead, this.#offers);
+    this.box = element("div", { class: "word", focusin: bringIntoSight }, element("span", { "aria-hidden": "true", class: "number" }, String(at + 1)), this.field, this.#ahead, this.#offers);
   }
 
   /** The word or the mark, in small letters. */

@@ -79,6 +79,36 @@ def check_next_screen(page, _):
         clear(page, say("clear.repaired"))
 
 
+# Presses Enter again and again once the last word is complete.
+AGAIN = """
+(() => {
+  const last = [...document.querySelectorAll('.word input')].at(-1);
+  const timer = setInterval(() => {
+    if (!last.isConnected) clearInterval(timer);
+    else if (last.value === 'sister') last.dispatchEvent(new KeyboardEvent('keydown', { key: 'Enter', bubbles: true }));
+  }, 0);
+})()
+"""
+
+
+def check_once(page, _):
+    """A paper that was typed back is told on the next screen alone, whatever is pressed after its last word. After a button, nothing more is
+    awaited of that word."""
+    line = changed(SOUND_PAPER, value=bytes([11] * 16))
+    begin(page, "damaged")
+    paste(page, with_words(line, {6: "?"}))
+    page.push(say("damaged.write", name="0.0"))
+    page.push(say("paper.written"), to=say("back.title", name="0.0"))
+    page.evaluate(AGAIN)
+    page.type(line.removesuffix("ter"))
+    page.wait_title(say("damaged.check.title"))
+    page.push(say("damaged.another"), to=say("damaged.title"))
+    page.lacks(say("back.same", name="0.0"))
+    page.type("tet ")
+    page.wait(lambda: page.evaluate("document.querySelector('.word input').value") == "tet", "a word that is like the rest of another one")
+    clear(page, say("clear.repaired"))
+
+
 def check_offers(page, see):
     """What is said of a wrong word covers no word that is offered in place of another one, when Shift and Tab lead there."""
     page.size(1280, 720)
@@ -307,4 +337,4 @@ def check_known_count(page, see):
     clear(page, say("clear.repaired"))
 
 
-CHECKS = [check_unread, check_keys, check_next_screen, check_offers, check_habits, check_guessed, check_mistyped, check_kept, check_open, check_damaged, check_known_count]
+CHECKS = [check_unread, check_keys, check_next_screen, check_once, check_offers, check_habits, check_guessed, check_mistyped, check_kept, check_open, check_damaged, check_known_count]

@@ -222,14 +222,17 @@ def check_no_terminal():
             raise Failed(f"without a terminal the status is {done.returncode}, and the message {done.stderr!r}")
     os.close(ours)
     os.close(theirs)
-    for options, wanted in [(["--version"], "shamir-papers 1.0.0\n"), (["--help"], "usage: shamir-papers"), (["new", "--help"], "usage: shamir-papers new")]:
+    shown = [(["--version"], "shamir-papers 1.0.0\n"), (["--help"], "usage: shamir-papers"), (["new", "--help"], "usage: shamir-papers new")]
+    refused = [["nothing"], ["check", "more"], ["new", "2of3", "more"], ["--exponent"]]
+    for options, status, wanted in [*((it, 0, text) for it, text in shown), *((it, 2, "") for it in refused)]:
         done = subprocess.run([*words[:3], *options], capture_output=True, text=True, env=environment(), stdin=subprocess.DEVNULL)
-        if done.returncode or not done.stdout.startswith(wanted):
+        if done.returncode != status or not done.stdout.startswith(wanted):
             raise Failed(f"{options} gives the status {done.returncode} and {done.stdout!r}")
-    for options in (["nothing"], ["check", "more"], ["new", "2of3", "more"], ["--exponent"]):
-        done = subprocess.run([*words[:3], *options], capture_output=True, text=True, env=environment(), stdin=subprocess.DEVNULL)
-        if done.returncode != 2:
-            raise Failed(f"{options} gives the status {done.returncode}")
+    for options, _ in shown:
+        with open("/dev/full", "w") as full:
+            done = subprocess.run([*words[:3], *options], stdout=full, stderr=subprocess.PIPE, text=True, env=environment())
+        if (done.returncode, done.stderr) != (1, ""):
+            raise Failed(f"{options} into a full disk gives the status {done.returncode} and the message {done.stderr!r}")
 
 
 def check_early():

@@ -127,6 +127,22 @@ class KeysAside(Keys):
         self.was_held = self.is_held
 
 
+class Bunches(KeysAside):
+    """A terminal whose keys come in bunches, and that drops what is left of one."""
+
+    def __init__(self, *bunches):
+        super().__init__(b"")
+        self.bunches = list(bunches)
+
+    def key(self):
+        self.keys = self.keys or list(self.bunches.pop(0))
+        return super().key()
+
+    def drop_typed(self):
+        dropped, self.keys = self.keys, []
+        return bool(dropped)
+
+
 class ScreenTests(unittest.TestCase):
     def test_who_stays_is_asked_again(self):
         terminal = KeysAside(b"\x04n\nacid\n")
@@ -136,6 +152,12 @@ class ScreenTests(unittest.TestCase):
         self.assertIn("Two papers would be lost.", terminal.shown)
         self.assertTrue(terminal.was_held)
 
+    def test_what_is_dropped_begins_no_answer(self):
+        # After 22 rows, the screen waits for a key. It drops what comes with that key if it has to wait once more.
+        for rows, bunches in [(50, [b"TREZOR\n", b"\n", b"TREZOR\n"]), (30, [b"T", b"REZOR\n"])]:
+            screen = Screen(Bunches(*bunches))
+            screen.rows(["row"] * rows)
+            self.assertEqual(screen.ask_hidden("Passphrase?"), b"TREZOR")
 
     def test_too_long_a_line_is_not_taken(self):
         terminal = KeysAside(b"x" * 2001 + b"\nTREZOR\n")

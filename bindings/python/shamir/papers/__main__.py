@@ -145,7 +145,15 @@ def main() -> None:
     if sys.version_info < (3, 10):
         sys.exit("shamir-papers needs Python 3.10 or later")
     signal.signal(signal.SIGINT, signal.SIG_DFL)
-    args = words_of_command().parse_args()
+    try:
+        args = words_of_command().parse_args()
+    except SystemExit:
+        # Help that can't be written is told by the status. At its end, Python would choose another one.
+        try:
+            print(end="", flush=True)
+        except OSError:
+            os._exit(1)
+        raise
     need_terminal(args.task)
     safety.start_overwriting()
     signal.pthread_sigmask(signal.SIG_UNBLOCK, [signal.SIGINT])

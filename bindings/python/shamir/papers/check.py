@@ -117,7 +117,8 @@ def _kind(desk: Desk, verdict: Verdict, result: str) -> str:
     """Returns what the heading of a result says. A good one isn't all if papers were left out, or can't be read in full."""
     if result == "good":
         is_whole = all(paper.name in verdict.names for paper in desk.papers)
-        is_written = any(it.is_rewritten and not it.is_repaired and not it.is_answered for it in desk.papers)
+        written = [it for it in desk.papers if it.is_rewritten and not it.is_repaired]
+        is_written = written != [] and not any(it.is_answered for it in written)
         return "left_out" if desk.left_out or desk.others or not is_whole else "damaged" if desk.damaged else "written" if is_written else result
     return "other.none" if result == "other" and not verdict.has_passphrase else result
 

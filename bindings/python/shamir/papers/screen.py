@@ -275,6 +275,10 @@ class Screen:
         """Waits until the owner has read what is shown, and takes the question for that away, or the whole screen. A key other than Enter
         goes on too, and is the first one of the answer to the question that follows."""
         is_dropped = self._terminal.drop_typed()
+        if is_dropped:
+            # The key that went on before was the first one of what is dropped.
+            wipe(self._begun)
+            self._begun = bytearray()
         self._terminal.write(say("screen.more") + " ")
         self._begun += self._held_on(lambda: first_key(self._terminal))
         self._terminal.write("\n" if self._terminal.is_plain else "\r\x1b[J")
