@@ -437,7 +437,7 @@ uninstall:
 	rmdir "$(DESTDIR)$(PYTHONDIR)" 2> /dev/null; true
 	rmdir "$(DESTDIR)$(PAGEDIR)" 2> /dev/null; true
 	for page in shamir $$($(CALLS)); do rm -f "$(DESTDIR)$(MANDIR)/man3/$$page.3"; done
-	cd "$(DESTDIR)$(DOCDIR)/" && rm -f $(DOCUMENTS) docs/*.md docs/*.png examples/*.txt examples/*.sh examples/c/*.c examples/cpp/*.cpp && \
+	cd "$(DESTDIR)$(DOCDIR)/" 2> /dev/null && rm -f $(DOCUMENTS) docs/*.md docs/*.png examples/*.txt examples/*.sh examples/c/*.c examples/cpp/*.cpp && \
 	rmdir examples/c examples/cpp examples docs "$$(pwd)" 2> /dev/null; true
 
 wheel:
