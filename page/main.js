@@ -190,8 +190,8 @@ function refuse(why) {
 function watch(tried) {
   const clear = /** @type {HTMLElement} */ (document.getElementById("clear"));
   clear.append(button(say("clear"), () => clearOrAsk(tried)));
-  // After a button, or a press of the mouse, no letter comes that belongs to the word before.
-  document.addEventListener("click", forgetRest, true);
+  // After a button, no letter comes that belongs to the word before.
+  document.addEventListener("click", ({ target }) => target instanceof Element && target.closest("button") && forgetRest(), true);
   document.addEventListener("visibilitychange", () => {
     document.body.classList.toggle("away", document.hidden);
     if (document.hidden) conceal();

@@ -69,7 +69,7 @@ export class PaperEntry {
       this.#answer,
       this.below,
       this.#grid,
-      element("div", { class: "buttons" }, this.#reading, button(say("entry.empty"), () => this.#emptied()), this.#restoring),
+      element("div", { class: "buttons", focusin: bringIntoSight }, this.#reading, button(say("entry.empty"), () => this.#emptied()), this.#restoring),
     );
     this.#counts.append(...quick);
     new ResizeObserver(() => this.#measure()).observe(this.#answer);

@@ -38,7 +38,7 @@ let arrived = null;
 let seen = NOTHING_SEEN;
 
 /**
- * Brings what gets the focus into sight. Browsers leave what is below an answer where it is.
+ * Brings what gets the focus into sight. Firefox leaves what is in part below an answer where it is.
  *
  * @param {Event} event
  */

@@ -2,8 +2,8 @@
 from browsers import Failed
 from choices import ABOVE
 from refusals import said
-from samples import BAD_CHECKSUM, BAD_PADDING, EXCHANGED, SOUND_PAPER, TWO, changed, name_of, with_words
-from tasks import begin, clear, end, found_words, paste, type_damaged
+from samples import BAD_CHECKSUM, BAD_PADDING, EXCHANGED, SOUND_PAPER, THREE_GROUPS, TWO, changed, name_of, with_words
+from tasks import begin, begin_replace, clear, end, found_words, paste, take_all, type_damaged
 from texts import counted, say
 
 
@@ -92,8 +92,7 @@ AGAIN = """
 
 
 def check_once(page, _):
-    """A paper that was typed back is told on the next screen alone, whatever is pressed after its last word. After a button, nothing more is
-    awaited of that word."""
+    """A paper that was typed back is told on the next screen alone, whatever is pressed after its last word."""
     line = changed(SOUND_PAPER, value=bytes([11] * 16))
     begin(page, "damaged")
     paste(page, with_words(line, {6: "?"}))
@@ -104,9 +103,22 @@ def check_once(page, _):
     page.wait_title(say("damaged.check.title"))
     page.push(say("damaged.another"), to=say("damaged.title"))
     page.lacks(say("back.same", name="0.0"))
-    page.type("tet ")
-    page.wait(lambda: page.evaluate("document.querySelector('.word input').value") == "tet", "a word that is like the rest of another one")
     clear(page, say("clear.repaired"))
+
+
+def check_after_button(page, _):
+    """After a button, nothing more is awaited of a word that was typed on a screen before it."""
+    begin_replace(page)
+    take_all(page, [THREE_GROUPS[0], *THREE_GROUPS[3:]])
+    # 'xy' is nearly the rest of 'skin', the last word of 0.1.
+    for name, typed in [("0.1", THREE_GROUPS[1].removesuffix("n")), ("0.2", "xy ")]:
+        page.wait_title(say("replace.which"))
+        page.choose(say("which.paper", name=name))
+        page.push(say("which.write"), to=say("paper.title", name=name))
+        page.push(say("paper.written"), to=say("back.title", name=name))
+        page.type(typed)
+    page.wait(lambda: page.evaluate("document.querySelector('.word input').value") == "xy", "a word that is like the rest of another one")
+    clear(page, say("clear.replaced"))
 
 
 def check_offers(page, see):
@@ -337,4 +349,4 @@ def check_known_count(page, see):
     clear(page, say("clear.repaired"))
 
 
-CHECKS = [check_unread, check_keys, check_next_screen, check_once, check_offers, check_habits, check_guessed, check_mistyped, check_kept, check_open, check_damaged, check_known_count]
+CHECKS = [check_unread, check_keys, check_next_screen, check_once, check_after_button, check_offers, check_habits, check_guessed, check_mistyped, check_kept, check_open, check_damaged, check_known_count]

@@ -132,7 +132,7 @@ FAULTS = [
     ("the rest of a word comes into the next screen", "page/show_paper.js", "isTaken: !isSame,", "isTaken: true,", of_page(lambda page: entry.check_next_screen(page, unseen))),
     ("a key after the last word ends a word of the next screen", "page/paper_entry.js", "this.#fields[0].begin();", "this.#fields[0].focus();", of_page(lambda page: entry.check_next_screen(page, unseen))),
     ("a paper is told once more on a later screen", "page/show_paper.js", "isDone = true;", "", of_page(lambda page: entry.check_once(page, unseen))),
-    ("after a button, the rest of a word is awaited", "page/main.js", 'document.addEventListener("click", forgetRest, true);', "", of_page(lambda page: entry.check_once(page, unseen))),
+    ("after a button, the rest of a word is awaited", "page/main.js", 'target.closest("button") && forgetRest()', "false", of_page(lambda page: entry.check_after_button(page, unseen))),
     ("what is said of a wrong word covers what is offered", "page/style.css", ":is(input, button)", "input", of_page(lambda page: entry.check_offers(page, unseen))),
     ("what was shown to be right is asked for", "page/check_papers.js", 'if (hasDamaged) setUnfinished(isKept ? "clear.repaired" : "");', "", of_page(lambda page: astray.check_alike(page, unseen))),
     ("a question mark lets the words after it move up", "page/spelling.js", "return separated(text, /[^\\p{L}\\p{M}?]+/u)", "return separated(text, /[^\\p{L}\\p{M}]+/u)", of_page(lambda page: entry.check_open(page, unseen))),

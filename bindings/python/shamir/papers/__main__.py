@@ -3,6 +3,7 @@ from __future__ import annotations
 
 import argparse
 import contextlib
+import io
 import os
 import signal
 import sys
@@ -145,6 +146,9 @@ def main() -> None:
     if sys.version_info < (3, 10):
         sys.exit("shamir-papers needs Python 3.10 or later")
     signal.signal(signal.SIGINT, signal.SIG_DFL)
+    if isinstance(sys.stdout, io.TextIOWrapper):
+        # Without a buffer, argparse drops the error of a write.
+        sys.stdout.reconfigure(write_through=False)
     try:
         args = words_of_command().parse_args()
     except SystemExit:
