@@ -3,7 +3,6 @@ from __future__ import annotations
 
 import argparse
 import contextlib
-import io
 import os
 import signal
 import sys
@@ -146,9 +145,9 @@ def main() -> None:
     if sys.version_info < (3, 10):
         sys.exit("shamir-papers needs Python 3.10 or later")
     signal.signal(signal.SIGINT, signal.SIG_DFL)
-    if isinstance(sys.stdout, io.TextIOWrapper):
-        # Without a buffer, argparse drops the error of a write.
-        sys.stdout.reconfigure(write_through=False)
+    if sys.stdout is not None:
+        # Without a buffer, argparse drops the error of a write, and nothing tells of a write that ends early.
+        sys.stdout = open(1, "w", closefd=False)
     try:
         args = words_of_command().parse_args()
     except SystemExit:
