@@ -147,11 +147,11 @@ def main() -> None:
     signal.signal(signal.SIGINT, signal.SIG_DFL)
     if sys.stdout is not None:
         # Without a buffer, argparse drops the error of a write, and nothing tells of a write that ends early.
-        sys.stdout = open(1, "w", closefd=False)
+        sys.stdout = open(1, "w", encoding="utf-8", closefd=False)
     try:
         args = words_of_command().parse_args()
     except SystemExit:
-        # Help that can't be written is told by the status. At its end, Python would choose another one.
+        # The status tells of help that standard output doesn't take. At its end, Python would choose another one.
         try:
             print(end="", flush=True)
         except OSError:
