@@ -141,10 +141,11 @@ def check_found():
         owner.expect(say("collect.apart", count=2))
         owner.expect(unsure)
         owner.expect(say("entry.drop", sign=SIGN, name="0.0"))
-        owner.forget()
         owner.type_paper(paper_prompt(3), elsewhere[1])
         owner.wait(paper_prompt(4))
+        owner.forget()
         owner.expect(say("collect.apart", count=2))
+        owner.lacks(unsure)
         end_by_keys(owner)
 
 

@@ -128,6 +128,7 @@ FAULTS = [
     ("a paper that is read in full stays damaged", "desk", "is_repaired=here.is_repaired and paper.is_repaired", "is_repaired=here.is_repaired", lambda see: repaired.check_read_later()),
     ("a passphrase is cut", "line", "            self.is_cut = True\n", "            pass\n", lambda see: astray.check_letter()),
     ("a drill without the repaired paper counts for it", "check", "is_there and all(paper.name in verdict.names for paper in repaired)", "is_there", lambda see: repaired.check_untried()),
+    ("only what was written anew is to be kept", "check", "len(right) < len(repaired) or (", "(", lambda see: repaired.check_untried()),
     ("a drill without the paper that was written anew counts for it", "check", "is_rewritten and paper.name in verdict.names for", "is_rewritten for", lambda see: repaired.check_whole()),
     ("a drill without a paper that was taken out counts for it", "check", "is_there = not desk.written or", "is_there = True or", lambda see: repaired.check_taken_out()),
     ("a typed word is called wrong beside a paper that fits", "found", "for fit in [] if found else fits:", "for fit in set(fits) - set(found):", lambda see: repaired.check_impossible()),

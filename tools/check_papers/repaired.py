@@ -153,6 +153,18 @@ def check_untried():
         owner.wait(say("next.good"))
         owner.expect(say("damaged.keep"))
         owner.finish(say("next.good"))
+    with started("repair") as owner:
+        # 0.1 is written anew, and tried; 1.0 isn't.
+        write_anew(owner, papers[1])
+        owner.type_paper(paper_prompt(2), papers[0])
+        owner.answer(paper_prompt(3), with_words(papers[3], {6: "?"}))
+        owner.answer(sure("1.0"), "y")
+        owner.answer(paper_prompt(4), "")
+        owner.passphrase("", fingerprint_of(papers[:2], ""))
+        owner.wait(say("next.good"))
+        owner.expect(say("damaged.right.one", names="0.1"))
+        owner.expect(say("damaged.keep"))
+        owner.finish(say("next.good"), "closed.repaired")
 
 
 def check_taken_out():
