@@ -344,9 +344,8 @@ def check_phone(page, see):
             if not page.evaluate(BESIDE):
                 raise Failed("the button that takes a paper out doesn't stand beside its name")
             page.go_to("button", say("collect.drop", name="0.0"))
-            page.evaluate("document.querySelector('.entry .read').focus({ preventScroll: true }); null")
             page.press("Enter")
-            page.wait_text(say("entry.nothing"))
+            page.wait_text(say("collect.dropped", name="0.0"))
             page.wait(lambda: page.evaluate(IN_SIGHT % "document.querySelector('.answer')"), "the answer in sight")
     clear(page)
     begin(page, "make")
