@@ -20,8 +20,8 @@
 #                    check-recipes, which runs alone too
 #   make check       runs the fast checks. They cover the documents, examples of doc comments, manual pages, completions,
 #                    terminals, values from files, refused allocations, the library and the packages
-#   make check-library   checks the library alone: its headers, examples, the Python binding, the cuts of a drill, generated
-#                    cases, and the vectors; and the JavaScript package and the Rust crate
+#   make check-library   checks the library alone: its headers, examples, the Python binding, generated cases, and the
+#                    vectors; and the JavaScript package and the Rust crate
 #   make check-page  checks shamir.html in Chromium and in Firefox: each task by keyboard, each refusal, what the browser keeps; and
 #                    its tasks in WebKit
 #   make check-papers  checks shamir-papers in terminals: each task, each wrong answer, what the terminal and the memory keep
@@ -207,7 +207,7 @@ twins:
 
 # Each sum of checks first builds what its checks need. Then it runs them side by side: as many as JOBS says, or as many as -j says.
 # Those that take longest come first. tools/part writes the name of a check before each of its lines.
-LIBRARY_CHECKS = check-rust check-header check-cpp check-clients check-vectors check-cuts check-js
+LIBRARY_CHECKS = check-rust check-header check-cpp check-clients check-vectors check-js
 PACKAGES_CHECKS = check-debs check-installed
 SECRETS_CHECKS = check-leftovers check-timing
 PAGE_PARTS = privacy change refusals tasks journey entry looks astray hasty long agreement ways
@@ -298,9 +298,6 @@ check-cpp: libshamir.so
 
 check-clients: libshamir.so $(if $(WASM_OPT),shamir32.wasm)
 	$(PART) tools/clients
-
-check-cuts: shamir libshamir.so
-	$(PART) tools/cuts
 
 check-vectors: shamir libshamir.so
 	$(PART) $(PYTHON) tools/vectors

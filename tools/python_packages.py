@@ -17,10 +17,7 @@ BINDING = pathlib.Path("bindings", "python")
 CARRIED = {"c/shamir.c": "dist/c/shamir.c", "c/shamir.h": "dist/c/shamir.h", "shamir/papers/texts.js": "page/texts.js"}
 CARRIED |= {name: name for name in ["LICENSE", "NOTICE"]}
 CARRIED |= {name: str(BINDING / name) for name in ["setup.py", "pyproject.toml", "README.md", "MANIFEST.in", "tests/test_shamir.py"]}
-CARRIED |= {
-    f"shamir/{name}": str(BINDING / "shamir" / name)
-    for name in ["__init__.py", "cuts.py", "drill_all.py", "mnemonic.py", "command/program.py", "py.typed"]
-}
+CARRIED |= {f"shamir/{name}": str(BINDING / "shamir" / name) for name in ["__init__.py", "mnemonic.py", "command/program.py", "py.typed"]}
 
 
 def made(python, folder, *words):

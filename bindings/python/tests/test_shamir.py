@@ -445,14 +445,11 @@ class WorkedExamples(unittest.TestCase):
                 next(shamir.drill(FIVE, fingerprints=True, expect=noted))
 
     def test_no_secret_leaves(self):
-        """A drill that is asked for fingerprints, and the check of the cuts, ask the library for no digits of a secret."""
-        from shamir import cuts
-
+        """A drill that is asked for fingerprints, or expects one, asks the library for no digits of a secret."""
         with mock.patch.object(shamir._library, "shamir_drill", wraps=shamir._library.shamir_drill) as calls:
             list(shamir.drill(FIVE, passphrase="TREZOR", fingerprints=True))
-            cuts.quorums("\n".join(FIVE).encode())
             list(shamir.drill(FIVE, passphrase="TREZOR", expect="df41d8fe"))
-        self.assertEqual([call.args[8] for call in calls.call_args_list], [1, 1, 2])
+        self.assertEqual([call.args[8] for call in calls.call_args_list], [1, 2])
 
     def test_forms(self):
         """A drill refuses a form that it doesn't have as it refuses a limit of 0. Its answer counts the quorums, and says where the
