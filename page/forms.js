@@ -54,6 +54,7 @@ function form(plan, name, count, label) {
     { class: "form" },
     element("h2", {}, say("blank.heading"), element("span", { class: "name" }, title)),
     paragraph(say(isOnly ? "blank.heirs.one" : "blank.heirs"), "heirs"),
+    element("p", { class: "heirs" }, element("strong", {}, say("blank.website"))),
     paragraph(takes),
     whole === takes ? null : paragraph(whole),
     element("ol", {}, ...Array.from({ length: count }, () => element("li"))),

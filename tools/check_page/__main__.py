@@ -100,6 +100,7 @@ def parts_of(name, url, modules, cases, seed):
 
 def check_sources():
     sources.check(ROOT / "page")
+    sources.check_forms(ROOT / "page")
     sources.check_types(ROOT / "page")
     decisions.check()
     faults.check_places()

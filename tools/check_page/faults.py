@@ -113,6 +113,8 @@ FAULTS = [
     ("the wallet needn't be said", "page/wallet.js", 'chosen.wallet === null ? say("wallet.missing") : null', "null", of_page(lambda page: choices.check_wallet(page, unseen))),
     ("papers for an older wallet have the flag", "page/make_backup.js", 'extendable: wallet === "flag"', "extendable: true", of_page(lambda page: tasks.check_make(page, unseen))),
     ("a text promises that one paper tells nothing", "page/texts.js", "and a thief hasn't.", "and a thief learns nothing.", lambda folder, url: sources.check(folder / "page"), 2),
+    ("a form sends whoever finds it to a website", "page/texts.js", "the software shamir (the file shamir.html)", "the software shamir (shamir.org)", lambda folder, url: sources.check_forms(folder / "page"), 2),
+    ("a form doesn't keep its words from websites", "page/forms.js", '    element("p", { class: "heirs" }, element("strong", {}, say("blank.website"))),\n', "", of_page(lambda page: forms.check_blank(page, unseen))),
     ("another fingerprint than the backup has is taken", "page/note_and_drill.js", 'given !== "" && given !== fingerprint', "false", of_page(lambda page: choices.check_notes(page, unseen))),
     ("the passphrase that was noted isn't tried", "page/passphrase.js", '  await desk.ask("passphrase", { passphrase: typed.passphrase }, [typed.passphrase.buffer]);\n', "", of_page(lambda page: choices.check_notes(page, unseen))),
     ("a new backup needs no noted fingerprint", "page/note_and_drill.js", "mayLack: isOwn", "mayLack: true", of_page(lambda page: tasks.check_make(page, unseen))),

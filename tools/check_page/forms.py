@@ -4,7 +4,7 @@ from tasks import begin, choose_wallet, clear, read_paper
 from texts import say
 
 # What each form has besides its name, its plan and its lines for words.
-LINES = ["blank.heirs", "blank.passphrase", "blank.fingerprint", "blank.wallet", "blank.date", "blank.where", "blank.keep"]
+LINES = ["blank.heirs", "blank.website", "blank.passphrase", "blank.fingerprint", "blank.wallet", "blank.date", "blank.where", "blank.keep"]
 # Returns how many columns the lines of the first form have, and the least room between two of them, in points of print.
 GUTTER = """
 (() => {
@@ -108,6 +108,8 @@ def check_single(page, _):
     text = page.evaluate("document.getElementById('sheet').textContent")
     if say("blank.heirs.one") not in text or say("blank.heirs") in text:
         raise Failed("the form of a single paper says that it is one of several")
+    if say("blank.website") not in text:
+        raise Failed("the form of a single paper doesn't say that its words are for no website")
     leave(page)
 
 

@@ -7,7 +7,7 @@ import tempfile
 
 from browsers import Failed
 from left_out import left_out
-from texts import read
+from texts import ROOT, read
 
 # What lets something out of the page, or keeps it in the browser. A policy doesn't stop all of these.
 FORBIDDEN = [
@@ -77,6 +77,23 @@ def check_texts(page):
     doubled = re.findall(r'^  "([^"]+)":', (page / "texts.js").read_text(), re.MULTILINE)
     if len(doubled) != len(set(doubled)):
         raise Failed("the table of texts has a key twice")
+
+
+# What looks like an address of the web: one that was free when the form was printed may belong to a thief when it is read.
+ADDRESS = re.compile(r"(?i)https?:|www\.|\b[\w-]+\.(?!html\b)[a-z]{2,}\b")
+
+
+def check_forms(page):
+    """Checks that forms and the page for heirs send nobody to a website, and name the software."""
+    table = read(page)
+    addressed = [key for key, text in table.items() if key.startswith("blank.") and ADDRESS.search(text)]
+    if addressed:
+        raise Failed(f"these texts of forms have an address: {addressed}")
+    nameless = [key for key in ("blank.heirs", "blank.heirs.one") if "the software shamir" not in table[key]]
+    if nameless:
+        raise Failed(f"these texts of forms don't name the software: {nameless}")
+    if table["blank.website"] not in (ROOT / "docs/HEIRS.md").read_text():
+        raise Failed("the page for heirs doesn't say that the words are for no website")
 
 
 def check_types(page):
