@@ -116,7 +116,7 @@ export async function drillWithPassphrase(desk, status, kinds, { title, passphra
  *   `isKept` that a damaged paper is to be kept
  */
 function tellVerdict(verdict, noted, { status, kinds, left, isKept }) {
-  const { result, fingerprint, hasPassphrase, table } = verdict;
+  const { result, hasPassphrase, table } = verdict;
   const [isGood, isNoted] = [result === "good", noted !== ""];
   const namesOf = (/** @type {(kind: Kind) => boolean} */ isMeant) => kinds.filter(isMeant).map(({ name }) => name);
   const [repaired, written] = [namesOf((it) => it.isRepaired), namesOf((it) => it.isRead || it.isWritten)];
@@ -131,7 +131,7 @@ function tellVerdict(verdict, noted, { status, kinds, left, isKept }) {
     ...anew,
     isKept && !found.anew.some(({ key }) => key === "damaged.keep") ? paragraph(say("damaged.keep"), "note") : null,
     isGood ? null : paragraph(again + say(`check.${result}`)),
-    ...(isGood && !isNoted && fingerprint ? [paragraph(say("noted.first")), element("p", { class: "fingerprint" }, fingerprint)] : []),
+    isGood && !isNoted ? paragraph(say("noted.first")) : null,
     table,
     paragraph(say("close")),
   ];

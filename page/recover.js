@@ -88,14 +88,16 @@ async function tell(desk, noted, fingerprint) {
   const which = noted === "" ? "unnoted" : noted === fingerprint ? "same" : "other";
   const key = which === "other" && !(await desk.ask("hasPassphrase")) ? "recover.other.none" : `recover.${which}`;
   const offered = which === "other" ? [] : [element("h2", {}, say("digits.title")), paragraph(say("digits.what")), digits(desk)];
+  const isSame = which === "same";
+  // A fingerprint is large only where the owner may note it.
   const children = [
-    paragraph(say(key, { fingerprint, noted }), which === "other" ? "bad" : which === "same" ? "good" : "note"),
-    element("p", { class: "fingerprint" }, fingerprint),
+    paragraph(`${say(key, { noted })}${isSame ? "" : ` ${fingerprint}`}`, which === "other" ? "bad" : isSame ? "good" : "note"),
+    isSame ? element("p", { class: "fingerprint" }, fingerprint) : null,
     ...offered,
     ...(which === "other" ? [] : [element("h2", {}, say("recover.next.title")), paragraph(say("recover.next"))]),
     paragraph(say("close")),
   ];
-  const answer = await askWhatNext(say(`recover.done.${which}`), children, which === "other" ? "again" : "end", which === "same");
+  const answer = await askWhatNext(say(`recover.done.${which}`), children, which === "other" ? "again" : "end", isSame);
   await desk.ask("forgetSecret");
   return answer;
 }

@@ -5,7 +5,7 @@ from browsers import Failed
 from refusals import said
 from samples import BAD_CHECKSUM, BIP39, EXCHANGED, FINGERPRINT, LONG, PASSPHRASE, SECRET, SOUND_PAPER, THREE_GROUPS, TWO, changed, fingerprint_of, name_of, said_kind
 from samples import with_words
-from tasks import answer_passphrase, begin, choose_wallet, clear, create, drill, end, paste, read_paper, type_digits, type_paper, type_passphrase, write_down
+from tasks import answer_passphrase, begin, check_small, choose_wallet, clear, create, drill, end, paste, read_paper, type_digits, type_paper, type_passphrase, write_down
 from texts import counted, say
 
 import plain
@@ -218,6 +218,8 @@ def check_looks_of_results(page, see):
         check_green(page, [said] if fingerprint else [])
         see(f"end of a drill, {which}")
         if not fingerprint:
+            page.wait_text(say("noted.first"))
+            check_small(page, noted)
             page.push(say("again"))
     end(page)
 

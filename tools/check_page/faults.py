@@ -115,6 +115,8 @@ FAULTS = [
     ("a text promises that one paper tells nothing", "page/texts.js", "and a thief hasn't.", "and a thief learns nothing.", lambda folder, url: sources.check(folder / "page"), 2),
     ("a form sends whoever finds it to a website", "page/texts.js", "the software shamir (the file shamir.html)", "the software shamir (shamir.org)", lambda folder, url: sources.check_forms(folder / "page"), 2),
     ("a form doesn't keep its words from websites", "page/forms.js", '    element("p", { class: "heirs" }, element("strong", {}, say("blank.website"))),\n', "", of_page(lambda page: forms.check_blank(page, unseen))),
+    ("a fingerprint that mustn't be noted is large", "page/recover.js", 'isSame ? element("p", { class: "fingerprint" }', 'true ? element("p", { class: "fingerprint" }', of_page(lambda page: tasks.check_recover(page, unseen))),
+    ("the same after a check", "page/check_papers.js", 'isGood && !isNoted ? paragraph(say("noted.first")) : null', 'isGood && !isNoted ? paragraph(`${say("noted.first")} ${verdict.fingerprint}`, "fingerprint") : null', of_page(lambda page: choices.check_looks_of_results(page, unseen))),
     ("another fingerprint than the backup has is taken", "page/note_and_drill.js", 'given !== "" && given !== fingerprint', "false", of_page(lambda page: choices.check_notes(page, unseen))),
     ("the passphrase that was noted isn't tried", "page/passphrase.js", '  await desk.ask("passphrase", { passphrase: typed.passphrase }, [typed.passphrase.buffer]);\n', "", of_page(lambda page: choices.check_notes(page, unseen))),
     ("a new backup needs no noted fingerprint", "page/note_and_drill.js", "mayLack: isOwn", "mayLack: true", of_page(lambda page: tasks.check_make(page, unseen))),

@@ -92,6 +92,21 @@ def end(page):
     page.push(say("end"), to=say("home.title"))
 
 
+# Returns the size of the text that has a fingerprint, beside that of a plain paragraph.
+SIZES = """
+((found) => [...found, document.querySelector('#main p:not([class])')].map((it) => parseFloat(getComputedStyle(it).fontSize)).join(' '))
+  ([...document.querySelectorAll('#main *')].filter((it) => [...it.childNodes].some((node) => node.nodeType === 3 && node.data.includes('%s'))))
+"""
+
+
+def check_small(page, fingerprint):
+    """Checks that a fingerprint which mustn't be noted yet is shown, and no larger than other text."""
+    page.wait_text(fingerprint)
+    *sizes, plain = map(float, page.evaluate(SIZES % fingerprint).split())
+    if not sizes or max(sizes) > plain:
+        raise Failed(f"a fingerprint that mustn't be noted yet has letters of {sizes} pixels, beside {plain}")
+
+
 def clear(page, is_asked=False):
     """Leaves a task before its end. `is_asked` says that the page asks whether that is meant, since papers aren't finished. It can be what
     the page says then."""
@@ -266,6 +281,14 @@ def check_recover(page, see):
     page.wait_title(say("recover.done.other"))
     see("another secret is recovered")
     page.lacks(say("digits.show"), "the digits of another secret than the noted one are offered")
+    check_small(page, fingerprint_of(THREE_GROUPS, "TREZOr"))
+    page.push(say("again"))
+    page.retype(say("noted.label"), "")
+    answer_passphrase(page, PASSPHRASE, None)
+    page.wait_title(say("recover.done.unnoted"))
+    page.wait_text(say("recover.unnoted"))
+    check_small(page, FINGERPRINT)
+    see("a secret is recovered, and none was noted")
     page.push(say("again"))
     answer_passphrase(page, PASSPHRASE, FINGERPRINT)
     page.wait_title(say("recover.done.same"))
