@@ -3,7 +3,7 @@
  * which order it refuses. Link with the library as a program in C does. docs/LIBRARY.md has a first call.
  *
  * A text is a std::string_view (Text), and bytes are a view too (Bytes), to which arrays and vectors of std::uint8_t convert. Options
- * are structs, whose fields have the defaults of the command shamir. Their passphrase is a view, so the text of it must live until the
+ * are structs, whose fields have defaults. Their passphrase is a view, so the text of it must live until the
  * call returns. An expected fingerprint is a string of their own.
  *
  * A call gives an Answer: its value, or the Refusal of the library. Secrets and mnemonics are in memory that is cleared before it is
@@ -344,11 +344,12 @@ inline std::string to_text(const Answer<Judgement> &found)
     return found ? (found->again ? "again\n" : "") + to_text(found->status) : found.error().message() + "\n";
 }
 
-/* Set the extendable flag of a new backup, unless a wallet that has to read it may not know the flag. */
+/* The defaults are those of python-shamir-mnemonic, the reference implementation of the standard. Leave the extendable flag out if a
+   wallet that has to read the backup may not know it. */
 struct CreateOptions {
     Text passphrase = {};
-    std::uint32_t exponent = 0;
-    bool extendable = false;
+    std::uint32_t exponent = 1;
+    bool extendable = true;
 };
 
 /* If a fingerprint is expected, a secret with another one is refused (52). */

@@ -43,7 +43,7 @@ export class Engine {
     /**
      * Creates a backup of a secret, and returns its mnemonics in the order of groups and members.
      *
-     *     const mnemonics = shamir.create("2of3", secret, { passphrase: "TREZOR", exponent: 1, extendable: true });
+     *     const mnemonics = shamir.create("2of3", secret, { passphrase: "TREZOR" });
      *
      * `plan` is TofN for one group, or GT/T1ofN1,T2ofN2,.. for up to 16 groups. GT is the group threshold, each T is the member
      * threshold of a group, and each N is its number of members. Each number is from 1 to 16. T may be 1 only if N is 1.

@@ -6,7 +6,7 @@
  *
  *     const shamir = await load(await readFile("shamir32.wasm"));
  *     const secret = crypto.getRandomValues(new Uint8Array(16));
- *     const mnemonics = shamir.create("2of3", secret, { passphrase: "TREZOR", exponent: 1, extendable: true });
+ *     const mnemonics = shamir.create("2of3", secret, { passphrase: "TREZOR" });
  *     const recovered = shamir.recover(mnemonics.slice(1), { passphrase: "TREZOR" }); // the bytes of the secret
  *
  * A backup consists of mnemonics, which are lines of words. Each mnemonic is a member of a group. Groups and members are
@@ -174,7 +174,7 @@ export class Engine {
   /**
    * Creates a backup of a secret, and returns its mnemonics in the order of groups and members.
    *
-   *     const mnemonics = shamir.create("2of3", secret, { passphrase: "TREZOR", exponent: 1, extendable: true });
+   *     const mnemonics = shamir.create("2of3", secret, { passphrase: "TREZOR" });
    *
    * `plan` is TofN for one group, or GT/T1ofN1,T2ofN2,.. for up to 16 groups. GT is the group threshold, each T is the member
    * threshold of a group, and each N is its number of members. Each number is from 1 to 16. T may be 1 only if N is 1.
@@ -200,7 +200,7 @@ export class Engine {
    * @returns {Uint8Array[]}
    */
   createBytes(plan, secret, options = {}) {
-    const { passphrase = "", exponent = 0, extendable = false, random } = known(options, ["passphrase", "exponent", "extendable", "random"]);
+    const { passphrase = "", exponent = 1, extendable = true, random } = known(options, ["passphrase", "exponent", "extendable", "random"]);
     const numbers = [wholeNumber(exponent, "the exponent", NUMBER_MAX), Number(flag(extendable, "extendable"))];
     return withCopies((own) => {
       const given = [own.text(plan, "the plan"), own.data(secret, "the secret"), own.text(passphrase, "the passphrase")];

@@ -212,16 +212,16 @@ export interface Judgement {
   status: Status;
 }
 
-/**
- * Set the extendable flag of a new backup, unless a wallet that has to read it may not know the flag. With a passphrase, give a new
- * backup an exponent of 1 or more. Without a passphrase, the exponent protects nothing.
- */
+/** The defaults are those of python-shamir-mnemonic, the reference implementation of the standard. */
 export interface CreateOptions {
   /** An additional secret of printable ASCII, which a recovery needs too. If it is left out, there is none. */
   passphrase?: Text | undefined;
-  /** The iteration exponent, 0 to 15. If it is left out, it is 0. */
+  /** The iteration exponent, 0 to 15. If it is left out, it is 1. Without a passphrase, it protects nothing. */
   exponent?: number | undefined;
-  /** Whether to set the extendable flag, which leaves the backup's identifier out of the encryption. */
+  /**
+   * Whether to set the extendable flag, which leaves the backup's identifier out of the encryption. If it is left out, the flag is set.
+   * Give false if a wallet that has to read the backup may not know the flag.
+   */
   extendable?: boolean | undefined;
   /** The random bytes, exactly as many as `randomNeeded` gives. If they are left out, `crypto.getRandomValues` gives them. */
   random?: Uint8Array | undefined;

@@ -20,7 +20,7 @@ static void draw(std::uint8_t *bytes, std::size_t count) {
 static void make(shamir::Text passphrase, char **words) {
     shamir::Secret secret(16);
     draw(secret.data(), secret.size());
-    std::cout << shamir::Text(*shamir::create(words[2], secret, {passphrase, 1, true}, draw));
+    std::cout << shamir::Text(*shamir::create(words[2], secret, {passphrase}, draw));
     std::cout << "# fingerprint " << *shamir::fingerprint(secret) << "\n";
 }
 

@@ -109,6 +109,11 @@ void check_creation()
 {
     shamir::CreateOptions options;
     options.passphrase = key;
+    const auto with_defaults = shamir::create("1of1", secret, options, count_up);
+    const auto share = shamir::parse(with_defaults->lines()[0]);
+    expect("the defaults of the reference implementation", share->exponent == 1 && share->extendable == 1);
+    options.exponent = 0;
+    options.extendable = false;
     const auto made = shamir::create(plan, secret, options, count_up);
     const auto found = made ? made->lines() : std::vector<shamir::Text>();
     expect("create", found == std::vector<shamir::Text>(std::begin(lines), std::end(lines)));

@@ -10,7 +10,7 @@ const lines = createInterface({ input: process.stdin })[Symbol.asyncIterator]();
 
 async function* make(passphrase, plan) {
   const secret = crypto.getRandomValues(new Uint8Array(16));
-  yield* shamir.create(plan, secret, { passphrase, exponent: 1, extendable: true });
+  yield* shamir.create(plan, secret, { passphrase });
   yield `# fingerprint ${shamir.fingerprint(secret)}`;
 }
 

@@ -4,7 +4,7 @@ import { createHmac } from "node:crypto";
 import test from "node:test";
 import { load, OF_GROUPS } from "../shamir.js";
 import * as given from "./given.js";
-import { FIVE, FIVE_QUORUMS, MISMATCHED, MISMATCHED_GROUPS, ONE, PLAN, SECRET, TWO, TWO_SECRET } from "./given.js";
+import { AS_BEFORE, FIVE, FIVE_QUORUMS, MISMATCHED, MISMATCHED_GROUPS, ONE, PLAN, SECRET, TWO, TWO_SECRET } from "./given.js";
 import { ENCRYPTED, EXTENDABLE, SPLIT_ANEW, UNDONE, bytesOf, counting, file, ofHex, shamir } from "./given.js";
 
 const KEY = { passphrase: "TREZOR" };
@@ -22,16 +22,18 @@ test("parse", () => {
 
 test("create", () => {
   assert.equal(shamir.randomNeeded(PLAN, 16), 26);
-  assert.deepEqual(shamir.create(PLAN, SECRET, { ...KEY, random: counting(26) }), FIVE);
-  assert.deepEqual(shamir.createBytes(PLAN, SECRET, { ...KEY, random: counting(26) }), FIVE.map(bytesOf));
-  assert.deepEqual(shamir.create("1of1", SECRET, { ...KEY, random: ofHex("1f09") }), [ONE]);
+  assert.deepEqual(shamir.create(PLAN, SECRET, { ...AS_BEFORE, random: counting(26) }), FIVE);
+  assert.deepEqual(shamir.createBytes(PLAN, SECRET, { ...AS_BEFORE, random: counting(26) }), FIVE.map(bytesOf));
+  assert.deepEqual(shamir.create("1of1", SECRET, { ...AS_BEFORE, random: ofHex("1f09") }), [ONE]);
   // With these random bytes, 2of3 gives the two mnemonics of TWO in reverse order, and one between them.
   const random = ofHex("64359164e7a006aadd75179d6d5c");
-  const [first, , third] = shamir.create("2of3", TWO_SECRET, { ...KEY, exponent: 2, random });
+  const [first, , third] = shamir.create("2of3", TWO_SECRET, { ...AS_BEFORE, exponent: 2, random });
   assert.deepEqual([third, first], TWO);
   assert.deepEqual(shamir.recover(shamir.create("10of16", counting(128)).slice(6)), counting(128));
   const flags = [false, true].map((extendable) => shamir.parse(shamir.create("1of1", SECRET, { extendable })[0]).extendable);
   assert.deepEqual(flags, [false, true]);
+  const { exponent, extendable } = shamir.parse(shamir.create("1of1", SECRET)[0]);
+  assert.deepEqual([exponent, extendable], [1, true], "the defaults of the reference implementation");
 });
 
 test("the greatest backup", () => {

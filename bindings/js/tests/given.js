@@ -16,6 +16,8 @@ export const TWO = [
 ];
 export const TWO_SECRET = ofHex("b43ceb7e57a0ea8766221624d01b0864");
 export const PLAN = "2/2of3,1of1,1of1";
+// With these options, ONE and FIVE are created.
+export const AS_BEFORE = { passphrase: "TREZOR", exponent: 0, extendable: false };
 export const FIVE = [
   "academic aluminum acrobat leaf buyer drink heat negative damage union purchase photo inmate training amazing yield bucket wrote mule cluster",
   "academic aluminum acrobat lily august piece column laser headset unusual blimp nuclear sweater criminal credit eyebrow trouble silent axis skin",

@@ -2,7 +2,7 @@
 import assert from "node:assert/strict";
 import test from "node:test";
 import { Refusal } from "../shamir.js";
-import { FIVE, FIVE_QUORUMS, Instance, MISMATCHED, ONE, PLAN, SECRET, TWO } from "./given.js";
+import { AS_BEFORE, FIVE, FIVE_QUORUMS, Instance, MISMATCHED, ONE, PLAN, SECRET, TWO } from "./given.js";
 import { CONFLICTING, ENCRYPTED, EXTENDABLE, UNDONE, bytesOf, counting, file, hex, instances, module, refused, shamir } from "./given.js";
 
 const [{ exports }] = instances;
@@ -164,7 +164,7 @@ test("copies of arguments and of the output are cleared", () => {
   const passphrase = bytesOf("TREZOR");
   const recovered = cleared(() => shamir.recover(FIVE, { passphrase }));
   for (const text of [FIVE[0], "TREZOR", FIVE.join("\n") + "\n"]) assert.ok(recovered.includes(text));
-  const created = cleared(() => shamir.create(PLAN, SECRET, { passphrase, random: counting(26) }));
+  const created = cleared(() => shamir.create(PLAN, SECRET, { ...AS_BEFORE, passphrase, random: counting(26) }));
   for (const bytes of [SECRET, counting(26)]) assert.ok(created.includes(Buffer.from(bytes).toString("latin1")));
   for (const text of ["TREZOR", FIVE.join("\n") + "\n", ...FIVE]) assert.ok(created.includes(text));
   const decrypted = cleared(() => shamir.decrypt(ENCRYPTED[0], { passphrase }));

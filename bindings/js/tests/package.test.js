@@ -7,7 +7,7 @@ import test from "node:test";
 import { pathToFileURL } from "node:url";
 import { Code, drillWithProgress, open, Papers, Refusal, refusalOf } from "../index.js";
 import { InWorker } from "../worker.js";
-import { CONFLICTING, ENCRYPTED, EXTENDABLE, FIVE, FIVE_QUORUMS, ONE, PLAN, SECRET, SPLIT_ANEW, TWO, TWO_SECRET } from "./given.js";
+import { AS_BEFORE, CONFLICTING, ENCRYPTED, EXTENDABLE, FIVE, FIVE_QUORUMS, ONE, PLAN, SECRET, SPLIT_ANEW, TWO, TWO_SECRET } from "./given.js";
 import { UNDONE, bytesOf, counting, refused } from "./given.js";
 
 const MODULE = new URL(`../../../${process.env.SHAMIR_MODULE ?? "shamir32.wasm"}`, import.meta.url);
@@ -158,7 +158,7 @@ test("a signal during a long call stops a drill", async () => {
 test("each call in a worker", async (t) => {
   const shamir = new InWorker(MODULE);
   t.after(() => shamir.end());
-  assert.deepEqual(await shamir.create(PLAN, SECRET, { ...KEY, random: counting(26) }), FIVE);
+  assert.deepEqual(await shamir.create(PLAN, SECRET, { ...AS_BEFORE, random: counting(26) }), FIVE);
   assert.deepEqual(await shamir.recover(new Set(FIVE), KEY), SECRET);
   const kept = await shamir.encrypted(new Set(FIVE));
   assert.deepEqual(kept, ENCRYPTED[2]);
@@ -231,7 +231,7 @@ test("a call in a worker copies its arguments at once", async (t) => {
   const shamir = new InWorker(MODULE);
   t.after(() => shamir.end());
   const [secret, random, lines] = [SECRET.slice(), counting(26), FIVE.map((line) => new TextEncoder().encode(line))];
-  const calls = [shamir.create(PLAN, secret, { ...KEY, random }), shamir.recover(lines, KEY), shamir.drill(lines, KEY).next()];
+  const calls = [shamir.create(PLAN, secret, { ...AS_BEFORE, random }), shamir.recover(lines, KEY), shamir.drill(lines, KEY).next()];
   for (const it of [secret, random, ...lines]) it.fill(0);
   const [made, recovered, drilled] = await Promise.all(calls);
   assert.deepEqual([made, recovered, drilled.value.secret], [FIVE, SECRET, SECRET]);
@@ -275,7 +275,7 @@ test("a signal stops its own call alone, also while it waits", async (t) => {
   t.after(() => shamir.end());
   const stopped = new AbortController();
   await assert.rejects(shamir.recover(FIVE, { passphrase: () => 1 }, stopped.signal), { name: "DataCloneError" });
-  const next = shamir.create(PLAN, SECRET, { ...KEY, random: counting(26) });
+  const next = shamir.create(PLAN, SECRET, { ...AS_BEFORE, random: counting(26) });
   stopped.abort();
   assert.deepEqual(await next, FIVE);
   const slow = assert.rejects(shamir.create(PLAN, SECRET, { ...KEY, exponent: 15, random: counting(26) }), { name: "AbortError" });

@@ -2,7 +2,7 @@
 import assert from "node:assert/strict";
 import test from "node:test";
 import vm from "node:vm";
-import { ENCRYPTED, FIVE, ONE, PLAN, SECRET, TWO } from "./given.js";
+import { AS_BEFORE, ENCRYPTED, FIVE, ONE, PLAN, SECRET, TWO } from "./given.js";
 import { bytesOf, counting, load, refused, shamir } from "./given.js";
 
 /** A byte array that says of itself that it is another one. */
@@ -214,7 +214,7 @@ test("an item of a list is one line", () => {
 });
 
 test("the real bytes of an array are used, whatever its class says", () => {
-  assert.deepEqual(shamir.create(PLAN, new OddBytes(SECRET), { passphrase: new OddBytes(bytesOf("TREZOR")), random: new OddBytes(counting(26)) }), FIVE);
+  assert.deepEqual(shamir.create(PLAN, new OddBytes(SECRET), { ...AS_BEFORE, passphrase: new OddBytes(bytesOf("TREZOR")), random: new OddBytes(counting(26)) }), FIVE);
   refused(42, null, [2, 0], () => shamir.fingerprint(new OddBytes(2)));
   assert.deepEqual(shamir.recover(new OddBytes(bytesOf(FIVE.join("\n"))), { passphrase: "TREZOR" }), SECRET);
   const inside = new Uint8Array([1, ...SECRET, 1]).subarray(1, 17);
@@ -248,7 +248,7 @@ test("arguments aren't changed, and results are the caller's own", () => {
   const [one, two] = [shamir.recover(FIVE), shamir.recover(FIVE)];
   one.fill(0);
   assert.notDeepEqual(one, two);
-  const made = shamir.createBytes(PLAN, secret, { random, passphrase });
+  const made = shamir.createBytes(PLAN, secret, { ...AS_BEFORE, random, passphrase });
   made[0].fill(0);
   assert.deepEqual(made.slice(1), FIVE.slice(1).map(bytesOf));
 });
@@ -265,7 +265,7 @@ test("without a source of random bytes, they must be given", () => {
   Object.defineProperty(globalThis, "crypto", { value: undefined, configurable: true });
   try {
     assert.throws(() => shamir.create(PLAN, SECRET), /^Error: crypto.getRandomValues isn't there/);
-    assert.deepEqual(shamir.create(PLAN, SECRET, { passphrase: "TREZOR", random: counting(26) }), FIVE);
+    assert.deepEqual(shamir.create(PLAN, SECRET, { ...AS_BEFORE, random: counting(26) }), FIVE);
   } finally {
     Object.defineProperty(globalThis, "crypto", kept);
   }

@@ -12,7 +12,7 @@ import shamir
 
 def make(passphrase: str, plan: str) -> None:
     secret = os.urandom(16)
-    print(*shamir.create(plan, secret, passphrase=passphrase, exponent=1, extendable=True), sep="\n")
+    print(*shamir.create(plan, secret, passphrase=passphrase), sep="\n")
     print("# fingerprint", shamir.fingerprint(secret))
 
 

@@ -2,7 +2,7 @@
 
     >>> import os, shamir
     >>> secret = os.urandom(16)
-    >>> mnemonics = shamir.create("2of3", secret, passphrase="TREZOR", exponent=1, extendable=True)
+    >>> mnemonics = shamir.create("2of3", secret, passphrase="TREZOR")
     >>> shamir.recover(mnemonics[1:], passphrase="TREZOR") == secret
     True
 
@@ -655,7 +655,7 @@ def random_needed(plan: Text, secret_bytes: int) -> int:
 
 
 def create(
-    plan: Text, secret: Data, *, passphrase: Text = b"", exponent: int = 0, extendable: bool = False, random: Optional[Data] = None
+    plan: Text, secret: Data, *, passphrase: Text = b"", exponent: int = 1, extendable: bool = True, random: Optional[Data] = None
 ) -> List[str]:
     """Create a backup of a secret, and return its mnemonics in the order of groups and members.
 
@@ -668,9 +668,8 @@ def create(
     `exponent` is the iteration exponent, 0 to 15. The call takes 10,000 * 2^exponent iterations of PBKDF2, and twice as
     many for a secret of more than 64 bytes.
 
-    Set the extendable flag of a new backup, unless a wallet that has to read it may not know the flag. With a passphrase,
-    give a new backup an exponent of 1 or more. The defaults are those of the command `shamir`: older wallets don't know the
-    flag, and without a passphrase the exponent protects nothing.
+    The defaults are those of python-shamir-mnemonic, the reference implementation of the standard. Leave the extendable flag
+    out if a wallet that has to read the backup may not know it. Without a passphrase, the exponent protects nothing.
 
     `random` has exactly as many bytes as `random_needed` gives. They must be unpredictable, and no other backup may use
     them. If `random` is None, they come from `os.urandom`.

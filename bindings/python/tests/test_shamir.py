@@ -195,10 +195,12 @@ class WorkedExamples(unittest.TestCase):
 
     def test_create(self):
         self.assertEqual(shamir.random_needed(PLAN, 16), 26)
-        self.assertEqual(shamir.create(PLAN, SECRET, passphrase="TREZOR", random=bytes(range(26))), FIVE)
-        self.assertEqual(shamir.create("1of1", SECRET, passphrase="TREZOR", random=b"\x1f\x09"), [ONE])
+        self.assertEqual(shamir.create(PLAN, SECRET, passphrase="TREZOR", exponent=0, extendable=False, random=bytes(range(26))), FIVE)
+        self.assertEqual(shamir.create("1of1", SECRET, passphrase="TREZOR", exponent=0, extendable=False, random=b"\x1f\x09"), [ONE])
+        defaults = shamir.parse(shamir.create("1of1", SECRET)[0])
+        self.assertEqual((defaults.exponent, defaults.extendable), (1, True), "those of the reference implementation")
         secret = bytes.fromhex("b43ceb7e57a0ea8766221624d01b0864")
-        self.assertEqual(shamir.create("2of3", secret, passphrase="TREZOR", exponent=2, random=TWO_RANDOM)[::2], TWO[::-1])
+        self.assertEqual(shamir.create("2of3", secret, passphrase="TREZOR", exponent=2, extendable=False, random=TWO_RANDOM)[::2], TWO[::-1])
         self.assertEqual(shamir.recover(shamir.create("10of16", bytes(range(128)))[6:]), bytes(range(128)))
         self.refused(43, None, (26, 0), shamir.create, PLAN, SECRET, random=b"")
         self.refused(42, None, (15, 0), shamir.create, PLAN, bytes(15), random=b"")
@@ -854,7 +856,7 @@ class WorkedExamples(unittest.TestCase):
         self.refused(11, 2, (1, 0), shamir.recover, [ended[0], "x\n"])
         self.assertEqual(shamir.parse(memoryview(ONE.encode())), shamir.parse(ONE))
         lent = [bytearray(SECRET), memoryview(SECRET), array.array("B", SECRET)]
-        made = [shamir.create(PLAN, secret, passphrase="TREZOR", random=bytearray(range(26))) for secret in lent]
+        made = [shamir.create(PLAN, secret, passphrase="TREZOR", exponent=0, extendable=False, random=bytearray(range(26))) for secret in lent]
         self.assertEqual(made, [FIVE] * 3)
         for call in [
             lambda: shamir.recover(FIVE, passphrase=6),
@@ -878,7 +880,7 @@ class WorkedExamples(unittest.TestCase):
         text = "\n".join(FIVE).encode()
         text += b"\n" * (len(text) % 2)
         for secret, passphrase, random in zip(odd(SECRET), odd(key), odd(given)):
-            self.assertEqual(shamir.create(PLAN, secret, passphrase=passphrase, random=random), FIVE)
+            self.assertEqual(shamir.create(PLAN, secret, passphrase=passphrase, exponent=0, extendable=False, random=random), FIVE)
         for name in odd(plan) + [OddText(PLAN)]:
             self.assertEqual(shamir.random_needed(name, 16), 26)
         for line in odd(ONE.encode() + b" " * (len(ONE) % 2)) + [OddText(ONE)]:

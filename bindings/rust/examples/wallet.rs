@@ -7,7 +7,7 @@ use std::{env, error::Error, fs, io, io::Read, sync::mpsc, thread};
 fn make(passphrase: &str, plan: &str) -> Result<String, Box<dyn Error>> {
     let draw = |room: &mut [u8]| fs::File::open("/dev/urandom")?.read_exact(room).map_err(Box::<dyn Error>::from);
     let secret = Secret::draw(16, draw)?;
-    let options = CreateOptions::new().passphrase(passphrase).exponent(1).extendable(true);
+    let options = CreateOptions::new().passphrase(passphrase);
     let papers = shamir::create_with(&plan.parse()?, &secret, &options, draw)?;
     Ok(format!("{}# fingerprint {}\n", papers.as_str(), shamir::fingerprint(&secret)))
 }

@@ -44,7 +44,7 @@ pub const MNEMONICS_BYTES_MAX: usize = 253440;
 /// let options = CreateOptions::new().passphrase("TREZOR").exponent(1).extendable(true);
 /// assert_eq!(format!("{options:?}"), "CreateOptions { passphrase: .., exponent: 1, extendable: true }");
 /// ```
-#[derive(Clone, Copy, Default)]
+#[derive(Clone, Copy)]
 #[must_use]
 pub struct CreateOptions<'a> {
     passphrase: &'a [u8],
@@ -53,17 +53,18 @@ pub struct CreateOptions<'a> {
 }
 
 impl<'a> CreateOptions<'a> {
-    /// Gives the options with no passphrase, the exponent 0, and no extendable flag, as the command `shamir` has them by default.
+    /// Gives the options with no passphrase, the exponent 1, and the extendable flag: the defaults of python-shamir-mnemonic, the
+    /// reference implementation of the standard.
     ///
-    /// Set the extendable flag of a new backup, unless a wallet that has to read it may not know the flag. With a passphrase, give
-    /// a new backup an exponent of 1 or more.
+    /// Leave the flag out if a wallet that has to read the backup may not know it. Without a passphrase, the exponent protects
+    /// nothing.
     ///
     /// ```
-    /// let options = shamir::CreateOptions::new().extendable(true);
-    /// # let _ = options;
+    /// let options = shamir::CreateOptions::new();
+    /// assert_eq!(format!("{options:?}"), "CreateOptions { passphrase: .., exponent: 1, extendable: true }");
     /// ```
     pub fn new() -> CreateOptions<'a> {
-        CreateOptions::default()
+        CreateOptions { passphrase: b"", exponent: 1, extendable: true }
     }
 
     /// Sets the passphrase, an additional secret that a recovery needs too. It is printable ASCII, and may be empty.
@@ -80,7 +81,7 @@ impl<'a> CreateOptions<'a> {
     /// secret of more than 64 bytes. So does each recovery, and each guess of the passphrase.
     ///
     /// ```
-    /// let options = shamir::CreateOptions::new().passphrase("TREZOR").exponent(1);
+    /// let options = shamir::CreateOptions::new().passphrase("TREZOR").exponent(5);
     /// # let _ = options;
     /// ```
     pub fn exponent(self, exponent: u32) -> CreateOptions<'a> {
@@ -90,11 +91,17 @@ impl<'a> CreateOptions<'a> {
     /// Sets or clears the extendable flag, which leaves the backup's identifier out of the encryption.
     ///
     /// ```
-    /// let options = shamir::CreateOptions::new().extendable(true);
+    /// let options = shamir::CreateOptions::new().extendable(false);
     /// # let _ = options;
     /// ```
     pub fn extendable(self, extendable: bool) -> CreateOptions<'a> {
         CreateOptions { extendable, ..self }
+    }
+}
+
+impl Default for CreateOptions<'_> {
+    fn default() -> Self {
+        CreateOptions::new()
     }
 }
 
@@ -168,7 +175,7 @@ mod in_heap {
     /// # fn main() -> Result<(), Error> {
     /// let plan: Plan = "2of3".parse()?;
     /// let secret = Secret::new(&[7; 16])?;
-    /// let options = CreateOptions::new().passphrase("TREZOR").exponent(1).extendable(true);
+    /// let options = CreateOptions::new().passphrase("TREZOR");
     /// # let random = [7; 14];
     /// let mnemonics = create(&plan, &secret, &options, &random)?;
     /// assert_eq!(mnemonics.len(), 3);

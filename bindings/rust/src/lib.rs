@@ -10,7 +10,7 @@
 //! let mut draw = |room: &mut [u8]| source.read_exact(room).map_err(Box::<dyn Error>::from);
 //! let secret = Secret::draw(16, &mut draw)?;
 //! let plan: Plan = "2of3".parse()?;
-//! let mnemonics = create_with(&plan, &secret, &CreateOptions::new().passphrase("TREZOR").exponent(1).extendable(true), &mut draw)?;
+//! let mnemonics = create_with(&plan, &secret, &CreateOptions::new().passphrase("TREZOR"), &mut draw)?;
 //!
 //! let options = RecoverOptions::new().passphrase("TREZOR");
 //! let two: Mnemonics = mnemonics.iter().skip(1).collect();

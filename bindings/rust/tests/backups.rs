@@ -30,7 +30,7 @@ fn secret(digits: &str) -> Secret {
 }
 
 fn of_two() -> CreateOptions<'static> {
-    CreateOptions::new().passphrase("TREZOR").exponent(2)
+    CreateOptions::new().passphrase("TREZOR").exponent(2).extendable(false)
 }
 
 fn outcomes(drill: Drill<'_>) -> Vec<Outcome> {

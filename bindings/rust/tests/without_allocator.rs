@@ -13,7 +13,7 @@ fn plan(text: &str) -> Plan {
 #[test]
 fn a_published_backup_is_created_and_recovered() {
     let (secret, random) = (Secret::new(&bytes(TWO_SECRET)).unwrap(), bytes(TWO_RANDOM));
-    let options = CreateOptions::new().passphrase("TREZOR").exponent(2);
+    let options = CreateOptions::new().passphrase("TREZOR").exponent(2).extendable(false);
     let mut room = [7; 1000];
     let text = create_into(&plan("2of3"), &secret, &options, &random, &mut room).unwrap();
     assert_eq!((text.lines().next(), text.lines().last(), text.lines().count()), (Some(TWO[1]), Some(TWO[0]), 3));
@@ -113,8 +113,9 @@ fn options_are_passed_on() {
         parse(create_into(&plan("1of1"), &secret, &options, &random, &mut room).unwrap().trim_end()).unwrap()
     };
     let none = CreateOptions::new();
-    assert_eq!((made(none).exponent, made(none).extendable), (0, false));
-    assert_eq!((made(none.exponent(1)).exponent, made(none.extendable(true)).extendable), (1, true));
+    // These are the defaults of the reference implementation.
+    assert_eq!((made(none).exponent, made(none).extendable), (1, true));
+    assert_eq!((made(none.exponent(2)).exponent, made(none.extendable(false)).extendable), (2, false));
     assert_ne!(made(none).value, made(none.passphrase("a")).value);
     // Options can be set in any order.
     let all = made(none.passphrase("a").exponent(1).extendable(true));
