@@ -2,6 +2,7 @@
 import { askForMore, askWhatNext, collectPapers } from "./collect.js";
 import { element, paragraph } from "./dom.js";
 import { askToDrill, runDrill, toldCount, toldVerdict } from "./drill.js";
+import { answered } from "./missing.js";
 import { askPassphrase } from "./passphrase.js";
 import { saidRefusal } from "./refusals.js";
 import { resultOf } from "./result.js";
@@ -120,12 +121,13 @@ function tellVerdict(verdict, noted, { status, kinds, left, isKept }) {
   const [isGood, isNoted] = [result === "good", noted !== ""];
   const namesOf = (/** @type {(kind: Kind) => boolean} */ isMeant) => kinds.filter(isMeant).map(({ name }) => name);
   const [repaired, written] = [namesOf((it) => it.isRepaired), namesOf((it) => it.isRead || it.isWritten)];
-  const lone = namesOf((it) => it.isWritten && it.memberThreshold === 1);
-  const found = resultOf(verdict, isNoted, { here: status.groups.flatMap(({ names }) => names), repaired, written, lone, isLeft: left !== null });
-  const [tried, anew] = [found.tried, found.anew].map((them) => them.map(({ key, names, kind }) => paragraph(say(key, { names: names.join(", ") }), kind)));
+  const here = status.groups.flatMap(({ names }) => names);
+  const found = resultOf(verdict, isNoted, { here, repaired, written, lone: answered(kinds), isLeft: left !== null });
+  const [first, tried, anew] = [found.first, found.tried, found.anew].map((them) => them.map(({ key, names, kind }) => paragraph(say(key, { names: names.join(", ") }), kind)));
   const again = ["other", "none"].includes(result) ? `${say(hasPassphrase ? "check.again" : "check.again.none")} ` : "";
   const told = [
-    toldVerdict(verdict),
+    ...first,
+    toldVerdict({ ...verdict, isEqual: verdict.isEqual && found.isRight }),
     ...tried,
     left,
     ...anew,

@@ -68,6 +68,16 @@ export function planWith(status, { groupCount, groupThreshold }, wanted, needed)
 }
 
 /**
+ * Returns the names of the papers that were written again, and whose group needs one paper, as only the owner said: no other paper of it was
+ * here.
+ *
+ * @param {readonly import("./desk.js").Kind[]} kinds
+ */
+export function answered(kinds) {
+  return kinds.filter((it) => it.isWritten && it.memberThreshold === 1).map(({ name }) => name);
+}
+
+/**
  * Whether papers may determine a missing one, whatever the plan is: they are enough, or a group of several is complete.
  *
  * @param {Standing} status

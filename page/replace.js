@@ -5,10 +5,10 @@ import { drillWithPassphrase, saidLeftOut } from "./check_papers.js";
 import { Declined } from "./client.js";
 import { askForMore, collectPapers } from "./collect.js";
 import { BACK, choice, paragraph } from "./dom.js";
-import { mayDetermine, taskOf } from "./missing.js";
+import { answered, mayDetermine, taskOf } from "./missing.js";
 import { planText, saidTakesAlone } from "./plan.js";
 import { saidError } from "./refusals.js";
-import { say } from "./say.js";
+import { formOf, say } from "./say.js";
 import { ask, setStep, setSteps } from "./screen.js";
 import { writeAndTypeBack } from "./show_paper.js";
 import { askWhich } from "./which_paper.js";
@@ -88,10 +88,12 @@ async function replaceDestroyed(desk) {
 async function writeMissing(desk, kind) {
   let fault = "";
   for (;;) {
-    const isWritten = areWritten(await desk.ask("kinds"));
+    /** @type {Kind[]} */
+    const kinds = await desk.ask("kinds");
+    const isWritten = areWritten(kinds);
     setStep(isWritten ? 6 : 3);
     /** @type {Wanted | "papers" | "drill"} */
-    const wanted = await askWhich(await desk.ask("status"), kind, fault, isWritten);
+    const wanted = await askWhich(await desk.ask("status"), kind, fault, { isWritten, lone: answered(kinds) });
     if (typeof wanted === "string") return wanted;
     const found = await computed(desk, wanted);
     fault = found.fault;
@@ -134,7 +136,9 @@ async function computed(desk, { name, plan }) {
  * @param {string} key what too few papers mean here
  */
 async function tellFew(desk, status, kinds, key) {
-  const told = [paragraph(say(key), "note"), await saidLeftOut(desk)];
+  const lone = answered(kinds);
+  const rests = lone.length ? paragraph(say(`replace.lone.${formOf(lone)}`, { names: lone.join(", ") }), "bad") : null;
+  const told = [rests, paragraph(say(key), "note"), await saidLeftOut(desk)];
   return askForMore(say(areWritten(kinds) ? "replace.done" : "replace.few"), told, status, kinds, key === "replace.too_few" ? "" : "replace");
 }
 

@@ -11,6 +11,12 @@ import { formOf } from "./say.js";
  *
  * @typedef {{here: string[], repaired: string[], written: string[], lone: string[], isLeft: boolean}} Papers
  */
+/**
+ * What a drill shows of papers: the key of the heading, what the owner does next, what is said before all else, which papers were tried, and
+ * what that shows of those that were repaired or written again. `isRight` says that what equals the note may be called right.
+ *
+ * @typedef {{title: string, next: Next, first: Told[], tried: Told[], anew: Told[], isRight: boolean}} Shown
+ */
 
 /** @type {Record<Verdict["result"], Next>} */
 const NEXT = { good: "end", stopped: "again", other: "again", none: "again", some: "papers", several: "papers" };
@@ -39,25 +45,29 @@ function form(key, names, kind) {
 }
 
 /**
- * Returns what a drill shows of papers. Only the noted fingerprint shows that papers are right.
+ * Returns what a drill shows of papers. Only the noted fingerprint shows that papers are right, and nothing does that rests on an answer.
  *
  * @param {Pick<Verdict, "result" | "names" | "right" | "hasPassphrase" | "part">} verdict
  * @param {boolean} isNoted whether a fingerprint was noted
  * @param {Papers} papers
+ * @returns {Shown}
  */
 export function resultOf(verdict, isNoted, { here, repaired, written, lone, isLeft }) {
   const { result, names } = verdict;
   const isTried = (/** @type {string} */ name) => names.includes(name);
   const others = names.length > 0 && result !== "stopped" ? here.filter((name) => !isTried(name)) : [];
   const again = result === "good" ? written.filter(isTried) : [];
-  const [right, answered] = [again.filter((name) => !lone.includes(name)), again.filter((name) => lone.includes(name))];
-  const anew = isNoted ? [...form("replace.right", right, "good"), ...form("replace.lone", answered, "note")] : form("replace.tried", again, "note");
-  const isWritten = right.length > 0 && answered.length === 0;
+  const right = again.filter((name) => !lone.includes(name));
+  const told = [...ofRepaired(verdict, isNoted, repaired), ...form(isNoted ? "replace.right" : "replace.tried", right, isNoted ? "good" : "note")];
+  const isRight = lone.length === 0;
+  const kindOf = (/** @type {Told["kind"]} */ kind) => (kind === "good" && !isRight ? "note" : kind);
   return {
-    title: `check.done.${titleOf(verdict, isNoted, isLeft || others.length > 0, isWritten)}`,
+    title: `check.done.${titleOf(verdict, isNoted, isLeft || others.length > 0, { isRight, isWritten: right.length > 0 })}`,
     next: NEXT[result],
+    first: form("replace.lone", lone, "bad"),
     tried: [...naming("verdict.papers", here.filter(isTried), ""), ...naming("verdict.papers.none", others, "")],
-    anew: [...ofRepaired(verdict, isNoted, repaired), ...anew],
+    anew: told.map((it) => ({ ...it, kind: kindOf(it.kind) })),
+    isRight,
   };
 }
 
@@ -67,10 +77,11 @@ export function resultOf(verdict, isNoted, { here, repaired, written, lone, isLe
  * @param {Pick<Verdict, "result" | "hasPassphrase">} verdict
  * @param {boolean} isNoted
  * @param {boolean} isUntried whether not all papers were tried
- * @param {boolean} isWritten whether papers that were tried were written again, and all of them are right
+ * @param {{isRight: boolean, isWritten: boolean}} papers `isRight` says that no paper rests on an answer, and `isWritten` that others were written again, and tried
  */
-function titleOf({ result, hasPassphrase }, isNoted, isUntried, isWritten) {
+function titleOf({ result, hasPassphrase }, isNoted, isUntried, { isRight, isWritten }) {
   if (result !== "good") return result === "other" && !hasPassphrase ? "other.none" : result;
+  if (!isRight) return "answered";
   // Without a noted fingerprint, no result is known to be good.
   if (!isNoted) return "same";
   return isUntried ? "left_out" : isWritten ? "written" : "good";

@@ -3,7 +3,7 @@ import { BACK, choice, element, labelled, paragraph } from "./dom.js";
 import { candidates, planWith, readName } from "./missing.js";
 import { picture } from "./picture.js";
 import { MEMBERS_MAX } from "./plan.js";
-import { say } from "./say.js";
+import { formOf, say } from "./say.js";
 import { ask } from "./screen.js";
 
 /** @typedef {import("./desk.js").Status} Status */
@@ -23,8 +23,9 @@ class Choice {
    * @param {Status} status
    * @param {Kind} kind
    * @param {boolean} isWritten
+   * @param {string[]} lone
    */
-  constructor(status, kind, isWritten) {
+  constructor(status, kind, isWritten, lone) {
     this.#status = status;
     this.#kind = kind;
     const offered = candidates(status, kind.groupCount).map(({ name, why }) => ({ key: name, label: say("which.paper", { name }), hint: say(why, { group: Number(name.split(".")[0]) }) }));
@@ -35,7 +36,8 @@ class Choice {
       this.#draw();
     };
     const asked = choice(say(isWritten ? "which.another" : "which.legend"), options, null, pick);
-    this.element = this.hasNone ? paragraph(say("replace.none"), "note") : element("div", {}, asked, this.#typed.box, this.#needed.box);
+    const none = lone.length ? say(`replace.none.answered.${formOf(lone)}`, { names: lone.join(", ") }) : say("replace.none");
+    this.element = this.hasNone ? paragraph(none, "note") : element("div", {}, asked, this.#typed.box, this.#needed.box);
     this.#draw();
   }
 
@@ -72,11 +74,11 @@ class Choice {
  * @param {Status} status
  * @param {Kind} kind
  * @param {string} fault why the paper that was named before can't be written
- * @param {boolean} isWritten whether a paper was written again
+ * @param {{isWritten: boolean, lone: string[]}} papers whether a paper was written again, and the names of those that rest on an answer
  * @returns {Promise<Wanted | "drill" | "papers">}
  */
-export async function askWhich(status, kind, fault, isWritten) {
-  const asked = new Choice(status, kind, isWritten);
+export async function askWhich(status, kind, fault, { isWritten, lone }) {
+  const asked = new Choice(status, kind, isWritten, lone);
   const isDone = isWritten || asked.hasNone;
   const children = [fault ? paragraph(fault, "bad") : null, asked.hasNone ? null : paragraph(say("which.intro")), asked.element];
   const write = { key: /** @type {const} */ ("write"), label: say("which.write"), kind: isDone ? "" : "primary", take: () => asked.missing() };

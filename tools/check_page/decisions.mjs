@@ -72,7 +72,7 @@ const DECISIONS = {
   },
   results: ({ result, noted, passphrase, here, tried, right, repaired, written, lone = [], left, title, next, said }) => {
     const found = resultOf({ result, names: tried, right, hasPassphrase: passphrase }, noted, { here, repaired, written, lone, isLeft: left });
-    const told = [...found.tried, ...found.anew].map(({ key, names }) => say(key, { names: names.join(", ") }));
+    const told = [...found.first, ...found.tried, ...found.anew].map(({ key, names }) => say(key, { names: names.join(", ") }));
     return [[found.title, title], [found.next, next], [told.sort(), said.map(one).sort()]];
   },
   plans: ({ plan: text, lost, stolen, loss, theft, dangers, singles, takes }) => {

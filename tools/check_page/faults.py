@@ -71,7 +71,7 @@ FAULTS = [
     ("without a noted fingerprint, a repaired paper is called right", "page/result.js", 'result === "good" && isNoted ? tried', 'result === "good" ? tried', of_page(lambda page: astray.check_untried(page, unseen))),
     ("a typed word is called wrong beside a paper that fits", "page/read_damaged.js", "...(possible.length ? [] : impossible.map((kind) => paragraph(saidImpossible(kind), \"bad\"))),", "...impossible.map((kind) => paragraph(saidImpossible(kind), \"bad\")),", of_page(lambda page: astray.check_impossible(page, unseen))),
     ("a read paper of the backup leaves repaired ones in doubt", "page/collect.js", "kinds.length === 1 && kinds[0].isRepaired", "kinds.some((it) => it.isRepaired)", of_page(lambda page: astray.check_several_repaired(page, unseen))),
-    ("that a group needs one paper counts as shown", "page/check_papers.js", "it.isWritten && it.memberThreshold === 1", "false", of_page(lambda page: steps.check_which(page, unseen))),
+    ("that a group needs one paper counts as shown", "page/missing.js", "it.isWritten && it.memberThreshold === 1", "false", of_page(lambda page: steps.check_which(page, unseen))),
     ("complete groups are asked for that there can't be", "page/missing.js", '? "all" : "";', '? "" : "";', of_page(lambda page: astray.check_lost(page, unseen))),
     ("a passphrase that wasn't typed is called mistyped", "page/desk.js", "hasPassphrase: () => held.passphrase.length > 0", "hasPassphrase: () => true", of_page(lambda page: astray.check_without(page, unseen))),
     ("the module's memory isn't cleared", "bindings/js/calls.js", ".fill(0", ".slice(0", of_page(agreement.check_memory), 3),
@@ -115,6 +115,8 @@ FAULTS = [
     ("a text promises that one paper tells nothing", "page/texts.js", "and a thief hasn't.", "and a thief learns nothing.", lambda folder, url: sources.check(folder / "page"), 2),
     ("a form sends whoever finds it to a website", "page/texts.js", "the software shamir (the file shamir.html)", "the software shamir (shamir.org)", lambda folder, url: sources.check_forms(folder / "page"), 2),
     ("a form doesn't keep its words from websites", "page/forms.js", '    element("p", { class: "heirs" }, element("strong", {}, say("blank.website"))),\n', "", of_page(lambda page: forms.check_blank(page, unseen))),
+    ("what rests on an answer is green", "page/check_papers.js", "verdict.isEqual && found.isRight", "verdict.isEqual", of_page(lambda page: steps.check_which(page, unseen))),
+    ("after a wrong answer, no paper is missing", "page/which_paper.js", "const none = lone.length ?", "const none = false ?", of_page(lambda page: steps.check_wrong_answer(page, unseen))),
     ("a fingerprint that mustn't be noted is large", "page/recover.js", 'isSame ? element("p", { class: "fingerprint" }', 'true ? element("p", { class: "fingerprint" }', of_page(lambda page: tasks.check_recover(page, unseen))),
     ("the same after a check", "page/check_papers.js", 'isGood && !isNoted ? paragraph(say("noted.first")) : null', 'isGood && !isNoted ? paragraph(`${say("noted.first")} ${verdict.fingerprint}`, "fingerprint") : null', of_page(lambda page: choices.check_looks_of_results(page, unseen))),
     ("another fingerprint than the backup has is taken", "page/note_and_drill.js", 'given !== "" && given !== fingerprint', "false", of_page(lambda page: choices.check_notes(page, unseen))),
@@ -164,7 +166,7 @@ FAULTS = [
     ("a hidden tab shows a paper", "page/main.js", "if (document.hidden) conceal();", "", of_page(lambda page: hidden(page))),
     ("steps begin anew", "page/note_and_drill.js", "setStep(7);", "setStep(1);", of_page(lambda page: journey.check_steps(page, unseen))),
     ("two buttons are to be pressed next", "page/collect.js", "this.#entry.isLeading = false;", "", of_page(lambda page: journey.check_steps(page, unseen))),
-    ("a result is said twice", "page/check_papers.js", "    toldVerdict(verdict),\n", "    toldVerdict(verdict),\n    toldVerdict(verdict),\n", of_page(lambda page: journey.check_steps(page, unseen))),
+    ("a result is said twice", "page/check_papers.js", "    ...tried,\n", "    ...tried,\n    toldVerdict(verdict),\n", of_page(lambda page: journey.check_steps(page, unseen))),
     ("a paper that is here is taken for missing", "page/missing.js", "own?.names.includes(name) ?", "false ?", of_page(lambda page: steps.check_which(page, unseen))),
     ("a name between those that are here isn't offered", "page/missing.js", "filter((member) => !here.includes(member))", "filter((member) => member > last)", of_page(lambda page: steps.check_which(page, unseen))),
     ("one paper fewer may be lost", "page/plan_picture.js", "group.members - group.needed + 1", "group.members - group.needed", of_page(lambda page: journey.check_plans(page, unseen))),
@@ -204,7 +206,7 @@ FAULTS = [
     ("old papers are to be destroyed before a wallet read the new ones", "page/change_plan.js", '    paragraph(say("change.restore"), "note"),\n', "", of_page(lambda page: change.check_bare(page, unseen))),
     ("old papers aren't to be marked", "page/change_plan.js", 'first: say("change.mark"), ', "", of_page(lambda page: change.check_bare(page, unseen))),
     ("new papers are called by the words for old ones", "page/change_plan.js", ", isNew: true", "", of_page(lambda page: change.check_bare(page, unseen))),
-    ("a paper that is written again isn't named", "page/result.js", ', ...anew],', "],", of_page(lambda page: tasks.check_replace(page, unseen))),
+    ("a paper that is written again isn't named", "page/result.js", "anew: told.map(", "anew: told.slice(0, 0).map(", of_page(lambda page: tasks.check_replace(page, unseen))),
     ("the way on is out of sight of the fields", "page/collect.js", "if (status.enough && !isOther) this.#offerEnd(own);", "", of_page(lambda page: choices.check_phone(page, unseen))),
     ("a picture stands between a choice and its buttons", "page/which_paper.js", "asked.element];", 'asked.element, picture(status, kind.groupCount, "replace")];', of_page(lambda page: steps.check_which(page, unseen))),
     ("old papers stay among the new ones", "page/backups.js", "    this.clear();\n    return lines;", "    return lines;", of_page(lambda page: change.check_bare(page, unseen))),
@@ -253,7 +255,7 @@ FAULTS = [
 
 if not webkit.missing():
     FAULTS.append(("texts don't fit if a window gets narrower, looked for in WebKit", "page/style.css", "display: flex; flex-direction: column; gap: .75rem;", "display: grid; gap: .75rem;", lambda folder, url: webkit.check(url, lambda page, what: None, [choices.check_phone])))
-    FAULTS.append(("a result is said twice, looked for in WebKit", "page/check_papers.js", "    toldVerdict(verdict),\n", "    toldVerdict(verdict),\n    toldVerdict(verdict),\n", lambda folder, url: webkit.check(url, lambda page, what: None)))
+    FAULTS.append(("a result is said twice, looked for in WebKit", "page/check_papers.js", "    ...tried,\n", "    ...tried,\n    toldVerdict(verdict),\n", lambda folder, url: webkit.check(url, lambda page, what: None)))
 
 
 def hidden_words(page):

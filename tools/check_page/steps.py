@@ -1,6 +1,7 @@
 """The ways back, what Enter does in a field that isn't a word's, and the questions for the plan of papers."""
 from browsers import Failed
-from samples import FINGERPRINT, PASSPHRASE, SOUND_PAPER, THREE_GROUPS, TWO, name_of
+from choices import check_green
+from samples import FINGERPRINT, PASSPHRASE, SOUND_PAPER, THREE_GROUPS, TWO, fingerprint_of, name_of, papers_of
 from tasks import begin, begin_replace, choose_wallet, clear, create, drill, end, paste, read_paper, take, take_all, type_paper
 from texts import counted, say
 
@@ -125,10 +126,44 @@ def check_which(page, see):
     page.push(say("replace.end"))
     drill(page, PASSPHRASE, FINGERPRINT)
     # Only the answer above says that its group needs one paper.
-    page.wait_title(say("check.done.good"))
-    page.wait_text(say("replace.lone.one", names="2.0"))
+    check_answered(page)
     see("a paper that is written again, and that rests on an answer")
     end(page)
+
+
+def check_answered(page):
+    """Checks that the end of 'Replace' names the answer on which paper 2.0 rests, before all else, and that nothing is green."""
+    page.wait_title(say("check.done.answered"))
+    if page.evaluate("document.querySelector('#main > p.bad')?.innerText") != say("replace.lone.one", names="2.0"):
+        raise Failed("the answer on which a new paper rests isn't told in red")
+    if page.text().index(say("replace.lone.one", names="2.0")) > page.text().index(say("quorum.what")):
+        raise Failed("the answer on which a new paper rests is told after what the drill found")
+    check_green(page, [])
+
+
+def check_wrong_answer(page, see):
+    """A wrong answer of how many papers a group needs gives a paper that isn't of the backup. No drill shows that, and nothing says that no
+    paper is missing."""
+    papers = papers_of("2/1of1,1of1,2of3", PASSPHRASE)
+    for noted in (fingerprint_of(papers, PASSPHRASE), None):
+        begin_replace(page)
+        take_all(page, papers[:2])
+        page.choose(say("which.paper", name="2.0"))
+        page.retype(say("which.needed"), "1", "spinbutton")
+        page.push(say("which.write"), to=say("paper.title", name="2.0"))
+        written = read_paper(page)
+        if written in papers:
+            raise Failed("a wrong answer gives a paper of the backup")
+        page.push(say("paper.written"))
+        paste(page, written)
+        page.wait_title(say("replace.which"))
+        page.wait_text(say("replace.none.answered.one", names="2.0"))
+        page.lacks(say("replace.none"), "that no paper is missing is said after an answer that is wrong")
+        see("what is missing rests on an answer")
+        page.push(say("replace.end"))
+        drill(page, PASSPHRASE, noted)
+        check_answered(page)
+        end(page)
 
 
 def check_one_group(page, _):
@@ -196,4 +231,4 @@ def check_chosen(page, see):
     clear(page, is_asked=True)
 
 
-CHECKS = [check_first_steps, check_make, check_chosen, check_passphrase, check_which, check_one_group]
+CHECKS = [check_first_steps, check_make, check_chosen, check_passphrase, check_which, check_wrong_answer, check_one_group]

@@ -254,20 +254,28 @@ def check_few():
 
 
 def check_lone():
-    """A paper written again whose group needs one paper, as only the owner says: a drill doesn't show that this is so."""
-    with started("replace") as owner:
-        owner.reply(say("replace.how"), "1")
-        owner.collect(THREE_GROUPS[:4])
-        owner.reply(say("replace.choose"), "2.0")
-        owner.reply(say("which.ask.needed", group=2), "1")
-        owner.reply(owner.question("new.write"), "")
-        owner.type_paper(say("back.ask", name="2.0"), THREE_GROUPS[4])
-        owner.reply(say("replace.choose"), "d")
-        owner.passphrase(PASSPHRASE, FINGERPRINT)
-        owner.wait(say("next.good"))
-        owner.expect(say("replace.lone.one", names="2.0"))
-        owner.lacks(say("check.done.written"))
-        owner.finish(say("next.good"))
+    """A paper written again whose group needs one paper, as only the owner says: a drill doesn't show that this is so, and nothing says that
+    no paper is missing. The answer is wrong here."""
+    papers = papers_of("2/1of1,1of1,2of3", PASSPHRASE)
+    for noted in (fingerprint_of(papers, PASSPHRASE), ""):
+        with started("replace") as owner:
+            owner.reply(say("replace.how"), "1")
+            owner.collect(papers[:2])
+            owner.reply(say("replace.choose"), "2.0")
+            owner.reply(say("which.ask.needed", group=2), "1")
+            owner.wait(owner.question("new.write"))
+            written = owner.words()
+            owner.reply(owner.question("new.write"), "")
+            owner.type_paper(say("back.ask", name="2.0"), written)
+            owner.wait(say("replace.choose.none"))
+            owner.expect(say("replace.none.answered.one", names="2.0"))
+            owner.lacks(say("replace.none"))
+            owner.reply(say("replace.choose.none"), "d")
+            owner.passphrase(PASSPHRASE, noted)
+            owner.wait(say("next.good" if noted else "next.unnoted"))
+            owner.expect(f"{say('check.done.answered')} [!] {say('replace.lone.one', names='2.0')}")
+            owner.lacks("[ok]", "what rests on an answer is called right")
+            owner.finish(say("next.good" if noted else "next.unnoted"))
 
 
 CHECKS = [

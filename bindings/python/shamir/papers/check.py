@@ -58,15 +58,19 @@ def _tell(screen: Screen, desk: Desk, verdict: Verdict, noted: str) -> str:
     # Without a noted fingerprint, no result is known to be good.
     result = "same" if verdict.result == "good" and not noted else verdict.result
     screen.tell(say(f"check.done.{_kind(desk, verdict, result)}"), "strong")
-    tell_verdict(screen, verdict, "good" if result == "good" else "")
+    answered = [paper for paper in desk.papers if paper.is_answered]
+    # Nothing that rests on the owner's answer is called right.
+    good = "" if answered else "good"
+    _tell_names(screen, "replace.lone", answered, "bad")
+    tell_verdict(screen, verdict, good if result == "good" else "")
     _tell_tried(screen, desk, verdict)
     if result in ("other", "none"):
         again = say("check.again" if verdict.has_passphrase else "check.again.none")
         screen.tell(f"{again} {say(f'check.{result}')}")
     elif result != "good":
         screen.tell(say("noted.first" if result == "same" else f"check.{result}"))
-    _tell_repaired(screen, desk, verdict, result)
-    _tell_written(screen, desk, verdict, result)
+    _tell_repaired(screen, desk, verdict, result, good)
+    _tell_written(screen, desk, verdict, result, good)
     if result not in FAULTY:
         tell_damaged(screen, desk)
     if _is_proved(desk, verdict, result):
@@ -77,26 +81,26 @@ def _tell(screen: Screen, desk: Desk, verdict: Verdict, noted: str) -> str:
     return ask_next(screen, NEXT[result])
 
 
-def _tell_repaired(screen: Screen, desk: Desk, verdict: Verdict, result: str) -> None:
-    """Says what a drill shows of the papers of which words were found and not read."""
+def _tell_repaired(screen: Screen, desk: Desk, verdict: Verdict, result: str, good: str) -> None:
+    """Says what a drill shows of the papers of which words were found and not read. `good` is the style of what is right."""
     repaired = [paper for paper in desk.papers if paper.is_doubtful]
     tried = [paper for paper in repaired if paper.name in verdict.names]
     right = tried if result == "good" else []
     # A quorum that wasn't tried may be right.
     if result in ("none", "some") and not verdict.part:
         _tell_names(screen, "damaged.suspect", [paper for paper in tried if paper.name not in verdict.right], "strong")
-    _tell_names(screen, "damaged.right", [paper for paper in right if paper.is_rewritten], "good")
+    _tell_names(screen, "damaged.right", [paper for paper in right if paper.is_rewritten], good)
     if len(right) < len(repaired) or (desk.written == "repaired" and not _is_proved(desk, verdict, result)):
         screen.tell(say("damaged.keep"), "strong")
 
 
-def _tell_written(screen: Screen, desk: Desk, verdict: Verdict, result: str) -> None:
-    """Says what a drill shows of papers that were written again from others. Only the noted fingerprint shows that they work. That a group
-    needs one paper is known only from the owner's answer."""
-    written = [paper for paper in desk.papers if paper.is_rewritten and not paper.is_repaired and paper.name in verdict.names]
+def _tell_written(screen: Screen, desk: Desk, verdict: Verdict, result: str, good: str) -> None:
+    """Says what a drill shows of papers that were written again from others. Only the noted fingerprint shows that they work. `good` is the
+    style of what is right."""
+    again = [paper for paper in desk.papers if paper.is_rewritten and not paper.is_repaired and paper.name in verdict.names]
+    written = [paper for paper in again if not paper.is_answered]
     if result == "good":
-        _tell_names(screen, "replace.right", [paper for paper in written if not paper.is_answered], "good")
-        _tell_names(screen, "replace.lone", [paper for paper in written if paper.is_answered], "")
+        _tell_names(screen, "replace.right", written, good)
     elif result == "same":
         _tell_names(screen, "replace.tried", written, "")
 
@@ -114,11 +118,13 @@ def _tell_names(screen: Screen, key: str, papers: List[Paper], style: str) -> No
 
 
 def _kind(desk: Desk, verdict: Verdict, result: str) -> str:
-    """Returns what the heading of a result says. A good one isn't all if papers were left out, or can't be read in full."""
+    """Returns what the heading of a result says. A good one isn't all if a paper rests on an answer, or if papers were left out, or can't
+    be read in full."""
+    if result in ("good", "same") and any(paper.is_answered for paper in desk.papers):
+        return "answered"
     if result == "good":
         is_whole = all(paper.name in verdict.names for paper in desk.papers)
-        written = [it for it in desk.papers if it.is_rewritten and not it.is_repaired]
-        is_written = written != [] and not any(it.is_answered for it in written)
+        is_written = any(it.is_rewritten and not it.is_repaired for it in desk.papers)
         return "left_out" if desk.left_out or desk.others or not is_whole else "damaged" if desk.damaged else "written" if is_written else result
     return "other.none" if result == "other" and not verdict.has_passphrase else result
 

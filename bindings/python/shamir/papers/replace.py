@@ -13,7 +13,7 @@ from shamir.papers.plan import Plan, said_takes_alone
 from shamir.papers.refusals import said_refusal
 from shamir.papers.screen import Back, Screen
 from shamir.papers.shown import write_and_type_back
-from shamir.papers.texts import say
+from shamir.papers.texts import one_or_many, say
 from shamir.papers.which import ask_which
 
 
@@ -102,4 +102,7 @@ def _drill(screen: Screen, desk: Desk) -> Optional[str]:
     if desk.status().enough:
         return "" if drill_with_passphrase(screen, desk, say("replace.drill")) == "p" else None
     is_written = any(it.is_rewritten for it in desk.papers)
-    return ask_for_more(screen, desk, say("replace.done" if is_written and desk.written else "replace.few"), say("replace.too_few"))
+    names = [it.name for it in desk.papers if it.is_answered]
+    rests = [say(f"replace.lone.{one_or_many(names)}", names=", ".join(names))] if names else []
+    told = " ".join([*rests, say("replace.too_few")])
+    return ask_for_more(screen, desk, say("replace.done" if is_written and desk.written else "replace.few"), told)

@@ -9,7 +9,7 @@ import shamir
 from shamir.papers.desk import Desk
 from shamir.papers.plan import Plan
 from shamir.papers.screen import Screen
-from shamir.papers.texts import counted, say
+from shamir.papers.texts import counted, one_or_many, say
 
 MEMBERS_MAX = 16
 # The name of a paper. If there is only one group, the number of the paper in it is enough.
@@ -41,7 +41,8 @@ def ask_which(screen: Screen, desk: Desk, fault: str) -> Optional[Tuple[str, Pla
     if fault:
         screen.tell(fault, "bad")
     if not offered:
-        screen.tell(say("replace.none"))
+        names = [paper.name for paper in desk.papers if paper.is_answered]
+        screen.tell(say(f"replace.none.answered.{one_or_many(names)}", names=", ".join(names)) if names else say("replace.none"))
         return screen.choose(say("replace.choose.none"), {DRILL: None}, has_back=True)
     screen.tell(say("which.intro"))
     screen.tell(say("which.another" if any(it.is_rewritten for it in desk.papers) else "which.legend"), "strong")
