@@ -2,8 +2,8 @@
 
     python3 tools/check_papers [--cases N] [--faults] [PART..]
 
-PART is one of entry, tasks, refusals, steps, slips, astray, pasted, repaired, apart, change, ends, traces, scrollback, looks and
-agreement; without one, all of them run.
+PART is one of entry, tasks, refusals, steps, slips, keys, astray, pasted, repaired, apart, change, ends, traces, scrollback, looks
+and agreement; without one, all of them run.
 `agreement` compares N generated backups with ./shamir, 20 if N isn't given. `--faults` plants faults in copies of the program instead, and checks
 that each is found. A part whose tool is missing says so. The status is 1 if something fails. A part that fails beside others is tried
 once more, by itself.
@@ -24,7 +24,7 @@ from tool import tested  # noqa: E402
 LIBRARY = ROOT / "bindings" / "python" / "shamir" / "libshamir.so"
 # This library is checked, whatever the environment names.
 os.environ["SHAMIR_LIBRARY"] = str(LIBRARY)
-PARTS = ["looks", "ends", "refusals", "slips", "astray", "pasted", "repaired", "apart", "change", "steps", "tasks", "traces", "scrollback", "entry", "agreement"]
+PARTS = ["looks", "ends", "refusals", "slips", "keys", "astray", "pasted", "repaired", "apart", "change", "steps", "tasks", "traces", "scrollback", "entry", "agreement"]
 
 
 def check_entry(_):

@@ -8,6 +8,7 @@ import astray
 import change
 import ends
 import hands
+import keys
 import looks
 import pasted
 import planted
@@ -83,6 +84,10 @@ FAULTS = [
     ("the rest of a paper that is pasted is no part of it", "entry", "if len(marks[0]) < LEAST and is_continued:", "if False:", lambda see: pasted.check_amid_rest()),
     ("what is pasted in place of Enter is dropped without a word", "screen", "if not is_alone and not self.drop_typed():", "if False:", lambda see: pasted.check_early()),
     ("the first of several lines is taken for a passphrase", "screen", "if not self.is_pasted(PASTE_SECONDS) or not self.drop_typed():", "if True:", lambda see: pasted.check_early()),
+    ("what a terminal answers is typed", "keys", "0x20 <= found[-1] < 0x40", 'found[-1] in b"0123456789;"', lambda see: keys.check_answers()),
+    ("the rest of an arrow is typed if it comes late", "keys", "SPLIT_SECONDS if found else JOINED_SECONDS", "JOINED_SECONDS", lambda see: keys.check_answers()),
+    ("what a terminal answers in a paste is taken for words", "screen", 'SEQUENCE.sub(b"", read)', "read", lambda see: keys.check_pasted()),
+    ("a key that moves nothing says nothing", "line", "        if hint:\n", "        if False:\n", lambda see: keys.check_hint()),
     ("a tab of a passphrase is lost", "line", "key == TAB and not self._is_hidden", "key == TAB", lambda see: pasted.check_tab()),
     ("pasted papers that are wrong are forgotten", "judged", "            found.faults.append((begin(text), why))\n", "            pass\n", lambda see: pasted.check_misspelt()),
     ("pasted papers that are wrong can't be mended", "judged", "found.left += [text] if len(words) >= BEGUN_LEAST else []", "pass", lambda see: pasted.check_misspelt()),

@@ -29,6 +29,9 @@ class Keys:
     def is_typed(self, seconds):
         return bool(self.keys)
 
+    def put_back(self, typed):
+        self.keys[:0] = typed
+
     def write(self, text):
         self.shown += text
 
@@ -57,6 +60,9 @@ class LineTests(unittest.TestCase):
             (b"acid bad\x17adult\n", "acid adult"),
             (b"ac\x1b[Did\n", "acid"),
             (b"ac\x1bOCid\x1b[3~\n", "acid"),
+            (b"ac\x1b[<35;10;10Mid\x1b]11;rgb:0/0/0\x07\n", "acid"),
+            (b"ac\x1b[\n", "ac"),
+            (b"\x1b\x1bOacid\n", "cid"),
             (b"a\x04cid\n", "acid"),
             ("aé\x7fcid\n".encode(), "acid"),
             (b"\x7f\x15\x17acid\n", "acid"),

@@ -1,5 +1,5 @@
 """A line that is typed: shown or hidden, with Backspace, Ctrl-U and Ctrl-W, and words that complete themselves. In a
-hidden line, a tab is a character.
+hidden line, a tab is a character. No key moves within a line.
 
 Python's readline isn't used: it keeps copies of what is typed, reads the owner's settings, and can't be hidden by Ctrl-Z.
 """
@@ -8,9 +8,10 @@ from __future__ import annotations
 import signal
 from typing import Callable, List, Optional
 
-from shamir.papers.terminal import UNSHOWN, Ended, Terminal
+from shamir.papers.keys import IDLE_KEY, Keys
+from shamir.papers.terminal import NO_KEY, UNSHOWN, Ended, Terminal
 
-ENTER, ESCAPE, TAB, SPACE = (10, 13), 27, 9, 32
+ENTER, TAB, SPACE = (10, 13), 9, 32
 END_OF_INPUT, BACKSPACE, ERASE_LINE, ERASE_WORD = 4, (8, 127), 21, 23
 LENGTH_MAX = 2000
 SHOWN_MAX = 10
@@ -26,32 +27,25 @@ def wipe(buffer: bytearray) -> None:
 
 def first_key(terminal: Terminal) -> bytes:
     """Waits for Enter, which gives nothing, or for a key that may begin an answer."""
+    keys = Keys(terminal)
     while True:
-        key = terminal.key()
+        key = keys.next()
         if key in ENTER:
             return b""
         if key == END_OF_INPUT:
             raise Ended(signal.SIGINT)
-        if key == ESCAPE:
-            skip_sequence(terminal)
-        elif key >= SPACE and key not in BACKSPACE:
+        if key >= SPACE and key not in BACKSPACE:
             return bytes([key])
 
 
-def skip_sequence(terminal: Terminal) -> None:
-    """Skips what a key such as an arrow sends after an Escape."""
-    if not terminal.is_typed(0.05):
-        return
-    key = terminal.key()
-    while key in b"[O;0123456789" and terminal.is_typed(0.05):
-        key = terminal.key()
-
-
 class Line:
-    """A line that is being typed. `prompt` stands before it, and is shorter than a row of the terminal. `begun` was typed before."""
+    """A line that is being typed. `prompt` stands before it, and is shorter than a row of the terminal. `begun` was typed before. `hint` is
+    said once, if a key is pressed that does nothing here, such as an arrow."""
 
-    def __init__(self, terminal: Terminal, prompt: str, complete: Optional[Completer] = None, is_hidden: bool = False, begun: bytes = b""):
-        self._terminal, self._prompt = terminal, prompt
+    def __init__(
+        self, terminal: Terminal, prompt: str, complete: Optional[Completer] = None, is_hidden: bool = False, begun: bytes = b"", hint: str = ""
+    ):
+        self._terminal, self._keys, self._prompt, self._hint = terminal, Keys(terminal), prompt, hint
         self._complete, self._is_hidden = complete, is_hidden
         self._typed = bytearray(begun)
         self._is_asked = False
@@ -67,7 +61,7 @@ class Line:
             self._place = self._terminal.place
             self._terminal.write(self._prompt + ("" if self._is_hidden else _shown(self._typed)))
         while True:
-            key = self._terminal.key()
+            key = self._keys.next()
             if key in ENTER:
                 self._end_word()
                 self._terminal.write("\n")
@@ -84,11 +78,11 @@ class Line:
             self._shorten(0)
         elif key == ERASE_WORD:
             self._shorten(self._typed.rstrip(b" ").rfind(b" ") + 1)
-        elif key == ESCAPE:
-            skip_sequence(self._terminal)
         elif key == TAB and not self._is_hidden:
             self._offer()
-        elif key < SPACE and key != TAB:
+        elif key == IDLE_KEY or (key < SPACE and key not in (TAB, NO_KEY)):
+            self._tell_hint()
+        elif key == NO_KEY:
             return
         elif len(self._typed) >= LENGTH_MAX:
             self.is_cut = True
@@ -126,6 +120,17 @@ class Line:
         up = (before - 1) // self._terminal.size.columns
         self._terminal.write_over(self._place, "\r" + (f"\x1b[{up}A" if up else "") + "\x1b[J", self._prompt + _shown(kept))
 
+    def _tell_hint(self) -> None:
+        hint, self._hint = self._hint, ""
+        if hint:
+            self._tell(hint)
+
+    def _tell(self, text: str) -> None:
+        """Shows a text, and then the line again."""
+        self._terminal.write(f"\n{text}\n")
+        self._place = self._terminal.place
+        self._terminal.write(self._prompt + ("" if self._is_hidden else _shown(self._typed)))
+
     def _letters(self) -> str:
         """Returns the letters of the word that is being typed."""
         return self._typed.replace(b",", b" ").split(b" ")[-1].decode("utf-8", "replace").lower()
@@ -155,9 +160,7 @@ class Line:
                 self._add(found[0][len(letters) : count].encode())
             else:
                 more = " .." if len(found) > SHOWN_MAX else ""
-                self._terminal.write("\n" + " ".join(found[:SHOWN_MAX]) + more + "\n")
-                self._place = self._terminal.place
-                self._terminal.write(self._prompt + _shown(self._typed))
+                self._tell(" ".join(found[:SHOWN_MAX]) + more)
 
 
 def _shown(data: bytes) -> str:

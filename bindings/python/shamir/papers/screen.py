@@ -12,7 +12,7 @@ import time
 from typing import Callable, Dict, Generic, Iterable, List, Optional, Sequence, Tuple, TypeVar
 
 from shamir.papers.line import Completer, Line, first_key, wipe
-from shamir.papers.terminal import PASTE_SECONDS, Ended, Resized, Terminal
+from shamir.papers.terminal import PASTE_SECONDS, SEQUENCE, Ended, Resized, Terminal
 from shamir.papers.texts import said_time, say
 
 T = TypeVar("T")
@@ -38,7 +38,7 @@ def wrapped(text: str, width: int) -> List[str]:
 
 def _printable(read: bytes) -> str:
     """Returns what was pasted, without keys that move or erase."""
-    text = read.decode("utf-8", "replace")
+    text = SEQUENCE.sub(b"", read).decode("utf-8", "replace")
     return "".join(it if it == "\n" else " " if it.isspace() else it for it in text if it.isspace() or it.isprintable())
 
 
@@ -192,12 +192,13 @@ class Screen:
             raise Back
         return typed
 
-    def _read(self, prompt: str, complete: Optional[Completer], is_hidden: bool) -> bytearray:
+    def _read(self, prompt: str, complete: Optional[Completer], is_hidden: bool, has_hint: bool = True) -> bytearray:
         *above, last = wrapped(prompt, self._width - 1) or [""]
+        hint = "\n".join(wrapped(say("line.keys"), self._width)) if has_hint else ""
         while True:
             self.rows(above)
             begun, self._begun = self._begun, bytearray()
-            line = Line(self._terminal, last + " ", complete, is_hidden, begun)
+            line = Line(self._terminal, last + " ", complete, is_hidden, begun, hint)
             typed = self._held_on(line.read)
             self._rows = 0
             self._unseen.clear()
@@ -264,7 +265,7 @@ class Screen:
     def pause(self, prompt: str) -> bool:
         """Waits for Enter, and returns whether it came alone. If not, what came is dropped, and the owner is told."""
         self.drop_typed()
-        typed = self._read(prompt, None, True)
+        typed = self._read(prompt, None, True, has_hint=False)
         is_alone = not typed.strip()
         wipe(typed)
         if not is_alone and not self.drop_typed():

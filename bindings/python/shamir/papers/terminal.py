@@ -26,8 +26,8 @@ UNSHOWN = "*"
 NO_KEY = 0
 # Within this time after what was typed, only a paste has more.
 PASTE_SECONDS = 0.05
-# What keys such as arrows send.
-SEQUENCE = re.compile(rb"\x1b(\[[0-9;]*.|O.|.?)", re.DOTALL)
+# What keys such as arrows send, and what the terminal itself answers.
+SEQUENCE = re.compile(rb"\x1b+(\[\[.|\[M...|\[[0-?]*[ -/]*[@-~]?|O[0-9;]*.|[]PX^_][^\x07\x1b\r\n]*(?:\x07|\x1b\\)?|[ -/]*[0-~]?)", re.DOTALL)
 RETURN, LINE_FEED = 13, 10
 
 ENTER_SCREEN, LEAVE_SCREEN = "\x1b[?1049h", "\x1b[?1049l"

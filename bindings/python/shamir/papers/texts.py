@@ -49,6 +49,7 @@ OWN: Dict[str, str] = {
     "screen.answers": "Type one of these: {answers}.",
     "screen.dropped": "What you typed or pasted before this isn't taken.",
     "screen.lines": "This takes one line, and several were pasted. Type it again.",
+    "line.keys": "The cursor doesn't move here. Backspace takes the last letter away, Ctrl-W the last word, and Ctrl-U all that was typed.",
     "screen.yes": "(y/n)",
     "screen.yes.back": "(y/n; b: back)",
     "screen.next": "Enter: go on",
