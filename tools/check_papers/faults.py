@@ -103,7 +103,7 @@ FAULTS = [
     ("a mistyped fingerprint takes the digits away", "secret", "        if not noted or _is_noted(screen, shamir.fingerprint(secret), noted):", "        if not noted or gives(Tried((), shamir.fingerprint(secret), None), noted):", lambda see: steps.check_new()),
     ("a dangerous plan is taken at once", "plan_choice", "    if not dangers:\n", "    if True:\n", lambda see: slips.check_plans()),
     ("each wallet is said to know the flag", "secret", '{"1": True, "2": False, "3": False}', '{"1": True, "2": True, "3": True}', lambda see: steps.check_new()),
-    ("what wasn't compared is said to be equal", "check", '"good" if result == "good" else ""', '"good"', lambda see: refusals.check_passphrases()),
+    ("what wasn't compared is said to be equal", "check", 'good if result == "good" else ""', 'good', lambda see: refusals.check_passphrases()),
     ("a paper says another number of others", "what", "paper.member_threshold - 1", "paper.member_threshold", tasks.check),
     ("all words with a number that is there twice are lost", "entry", "        return found\n\n    def _whole", "        if misplaced:\n            raise Begun\n        return found\n\n    def _whole", lambda see: refusals.check_numbers()),
     ("words that don't fit are lost", "entry", "            return self._whole(self._again(marks, None))", "            raise Begun", lambda see: refusals.check_open_words()),

@@ -163,7 +163,7 @@ class VerdictTests(unittest.TestCase):
         desk.written = "replaced"
         for names, is_kept in [(("0.0",), False), ((), True)]:
             screen = Answered()
-            _tell_repaired(screen, desk, Verdict("good", [], names), "good")
+            _tell_repaired(screen, desk, Verdict("good", [], names), "good", "good")
             self.assertEqual(say("damaged.keep") in screen.told, is_kept)
 
 
