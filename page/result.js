@@ -60,11 +60,14 @@ export function resultOf(verdict, isNoted, { here, repaired, written, lone, isLe
   const right = again.filter((name) => !lone.includes(name));
   const told = [...ofRepaired(verdict, isNoted, repaired), ...form(isNoted ? "replace.right" : "replace.tried", right, isNoted ? "good" : "note")];
   const isRight = lone.length === 0;
+  // Inside one paper alone, nothing is compared, so words that were found are in doubt before all else.
+  const isAlone = names.length === 1;
+  const doubted = isAlone && (result === "other" || (result === "good" && !isNoted)) ? repaired.filter(isTried) : [];
   const kindOf = (/** @type {Told["kind"]} */ kind) => (kind === "good" && !isRight ? "note" : kind);
   return {
-    title: `check.done.${titleOf(verdict, isNoted, isLeft || others.length > 0, { isRight, isWritten: right.length > 0 })}`,
+    title: `check.done.${doubted.length ? "doubt" : titleOf(verdict, isNoted, isLeft || others.length > 0, { isRight, isAlone, isWritten: right.length > 0 })}`,
     next: NEXT[result],
-    first: form("replace.lone", lone, "bad"),
+    first: [...form("replace.lone", lone, "bad"), ...naming("damaged.doubt", doubted, "bad")],
     tried: [...naming("verdict.papers", here.filter(isTried), ""), ...naming("verdict.papers.none", others, "")],
     anew: told.map((it) => ({ ...it, kind: kindOf(it.kind) })),
     isRight,
@@ -77,13 +80,13 @@ export function resultOf(verdict, isNoted, { here, repaired, written, lone, isLe
  * @param {Pick<Verdict, "result" | "hasPassphrase">} verdict
  * @param {boolean} isNoted
  * @param {boolean} isUntried whether not all papers were tried
- * @param {{isRight: boolean, isWritten: boolean}} papers `isRight` says that no paper rests on an answer, and `isWritten` that others were written again, and tried
+ * @param {{isRight: boolean, isAlone: boolean, isWritten: boolean}} papers `isRight` says that no paper rests on an answer, `isAlone` that one paper was tried by itself, and `isWritten` that papers were written again, and tried
  */
-function titleOf({ result, hasPassphrase }, isNoted, isUntried, { isRight, isWritten }) {
+function titleOf({ result, hasPassphrase }, isNoted, isUntried, { isRight, isAlone, isWritten }) {
   if (result !== "good") return result === "other" && !hasPassphrase ? "other.none" : result;
   if (!isRight) return "answered";
   // Without a noted fingerprint, no result is known to be good.
-  if (!isNoted) return "same";
+  if (!isNoted) return isAlone ? "one" : "same";
   return isUntried ? "left_out" : isWritten ? "written" : "good";
 }
 

@@ -125,7 +125,9 @@ function judged(right, wrong, fingerprint, isWhole, asked) {
   const quorums = counted(right.length + wrong.length, "quorum");
   if (wrong.length > 0) return right.length ? someWrong(right, wrong, noted, quorums) : noneRight(wrong, asked, quorums);
   const which = noted === "" ? "same" : isOwn ? "own" : "noted";
-  return { result: "good", sentences: [say(`verdict.${isWhole ? "all" : "tried"}.${which}${isNew ? ".new" : ""}`, { quorums, fingerprint })] };
+  // Inside one paper alone, nothing is compared.
+  const isAlone = right.length === 1 && right[0].names.length === 1 && (noted === "" || (isOwn && isNew));
+  return { result: "good", sentences: [say(`verdict.${isAlone ? "one" : isWhole ? "all" : "tried"}.${which}${isNew ? ".new" : ""}`, { quorums, fingerprint })] };
 }
 
 /**

@@ -1,5 +1,6 @@
 """Where an owner who reads only the screen could go astray: papers that don't work, results that say too much, and what may be destroyed."""
 import plain
+from browsers import Failed
 from looks import check_screen
 from samples import FINGERPRINT, PASSPHRASE, SOUND_PAPER, THREE_GROUPS, TWO, changed, fingerprint_of, name_of, named, opening, papers_of, swapped, with_words
 from tasks import answer_passphrase, begin, begin_replace, clear, drill, end, found_words, paste, read_paper, take, take_all, type_damaged, type_paper
@@ -176,6 +177,29 @@ def check_untried(page, see):
     page.wait_text(keep)
     see("a copy that was taken out")
     end(page)
+
+
+def check_alone(page, see):
+    """Inside a backup of one paper, nothing is compared. So the words that were found in it are in doubt before its passphrase is, or the
+    fingerprint, and no quorums are said to agree."""
+    paper, wrong = papers_of("1of1", PASSPHRASE)[0], changed(papers_of("1of1")[0], value=bytes(16))
+    noted = fingerprint_of([paper], PASSPHRASE)
+    for line, fingerprint, title, sentence in [
+        (wrong, None, "check.done.doubt", say("verdict.one.same", fingerprint=fingerprint_of([wrong], PASSPHRASE))),
+        (wrong, noted, "check.done.doubt", say("verdict.other", quorums=counted(1, "quorum"), noted=noted)),
+        (paper, noted, "check.done.good", say("damaged.right.one", names="0.0")),
+    ]:
+        begin(page, "damaged")
+        write_anew(page, line)
+        page.push(say("collect.end"))
+        drill(page, PASSPHRASE, fingerprint)
+        page.wait_title(say(title))
+        page.wait_text(sentence)
+        first = page.evaluate("document.querySelector('#main > h1 ~ *').innerText")
+        if (first == say("damaged.doubt", names="0.0")) != (line == wrong):
+            raise Failed(f"of a repaired paper that is a backup alone, this is said first: {first!r}")
+        see(f"a repaired paper that is a backup alone {title}")
+        end(page)
 
 
 def check_alike(page, see):
@@ -374,4 +398,4 @@ def check_several_repaired(page, see):
         end(page)
 
 
-CHECKS = [check_apart, check_several_repaired, check_left_out, check_impossible, check_repaired, check_blamed, check_untried, check_alike, check_lost, check_without]
+CHECKS = [check_apart, check_several_repaired, check_left_out, check_impossible, check_repaired, check_blamed, check_untried, check_alone, check_alike, check_lost, check_without]

@@ -210,11 +210,12 @@ def check_looks_of_results(page, see):
     check_green(page, [])
     page.push(say("entry.empty"))
     page.push(say("collect.end"))
-    for fingerprint, which in [(None, "same"), (noted, "noted")]:
-        said = say(f"verdict.all.{which}", quorums=counted(1, "quorum"), fingerprint=noted)
+    # Inside one paper, nothing is compared.
+    for fingerprint, which in [(None, "one.same"), (noted, "all.noted")]:
+        said = say(f"verdict.{which}", quorums=counted(1, "quorum"), fingerprint=noted)
         drill(page, PASSPHRASE, fingerprint)
         page.wait_text(said)
-        page.wait_title(say("check.done.good" if fingerprint else "check.done.same"))
+        page.wait_title(say("check.done.good" if fingerprint else "check.done.one"))
         check_green(page, [said] if fingerprint else [])
         see(f"end of a drill, {which}")
         if not fingerprint:

@@ -137,7 +137,7 @@ def repair(page, see):
     write_anew(page, SOUND_PAPER)
     page.push(say("collect.end"))
     drill(page, PASSPHRASE, None)
-    page.wait_title(say("check.done.same"))
+    page.wait_title(say("check.done.doubt"))
     see("journey repaired")
 
 

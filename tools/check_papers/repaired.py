@@ -278,8 +278,39 @@ def check_lone():
             owner.finish(say("next.good" if noted else "next.unnoted"))
 
 
+def check_alone():
+    """Inside a backup of one paper, nothing is compared. So words that were found in it are in doubt before all else."""
+    [paper] = papers_of("1of1", PASSPHRASE)
+    wrong, noted = changed(paper, value=bytes(16)), fingerprint_of([paper], PASSPHRASE)
+    for task in ("check", "recover"):
+        for line, fingerprint, prompt in [(wrong, "", "next.unnoted"), (wrong, noted, "next.again"), (paper, noted, "next.good")]:
+            with started(task) as owner:
+                owner.answer(paper_prompt(1), with_words(line, {6: "?"}))
+                owner.answer(sure("0.0"), "y")
+                owner.answer(paper_prompt(2), "")
+                owner.passphrase(PASSPHRASE, fingerprint)
+                if task == "recover" and prompt != "next.again":
+                    owner.answer(f"{say('recover.show')} (y/n)", "n")
+                owner.wait(say(prompt))
+                doubt = f"[!] {say('damaged.doubt', names='0.0')}"
+                if line == wrong:
+                    title = say("check.done.doubt") if task == "check" else say(f"recover.done.{'other' if fingerprint else 'unnoted'}")
+                    owner.expect(f"{title} {doubt}")
+                else:
+                    owner.lacks(doubt)
+                owner.lacks("Every quorum of these papers gives the same")
+                owner.finish(say(prompt))
+    with started("check") as owner:
+        owner.collect([paper])
+        owner.passphrase(PASSPHRASE, "")
+        owner.wait(say("next.unnoted"))
+        owner.expect(f"{say('check.done.one')} {say('verdict.one.same', fingerprint=noted)}")
+        owner.finish(say("next.unnoted"))
+
+
 CHECKS = [
     check_whole,
+    check_alone,
     check_proved,
     check_few,
     check_lone,

@@ -23,7 +23,7 @@ CASES = json.loads(TABLE.read_text("utf-8"))
 # A terminal has no table of quorums, so it names the wrong ones, and one for each secret.
 OF_A_TERMINAL = ("verdict.wrong.", "verdict.gave")
 # What a result says of the papers.
-OF_PAPERS = ("verdict.papers", "damaged.suspect.", "damaged.right.", "damaged.keep", "replace.right.", "replace.lone.", "replace.tried.")
+OF_PAPERS = ("verdict.papers", "damaged.doubt", "damaged.suspect.", "damaged.right.", "damaged.keep", "replace.right.", "replace.lone.", "replace.tried.")
 # The answer that stands first at the question after a result.
 LIKELY = {"e": "end", "t": "again", "p": "papers"}
 

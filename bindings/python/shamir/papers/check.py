@@ -62,6 +62,8 @@ def _tell(screen: Screen, desk: Desk, verdict: Verdict, noted: str) -> str:
     # Nothing that rests on the owner's answer is called right.
     good = "" if answered else "good"
     _tell_names(screen, "replace.lone", answered, "bad")
+    for paper in _doubted(desk, verdict, result):
+        screen.tell(say("damaged.doubt", names=paper.name), "bad")
     tell_verdict(screen, verdict, good if result == "good" else "")
     _tell_tried(screen, desk, verdict)
     if result in ("other", "none"):
@@ -79,6 +81,13 @@ def _tell(screen: Screen, desk: Desk, verdict: Verdict, noted: str) -> str:
     if result == "good":
         desk.prove(verdict.names)
     return ask_next(screen, NEXT[result])
+
+
+def _doubted(desk: Desk, verdict: Verdict, result: str) -> List[Paper]:
+    """Returns the paper whose words were found, if it alone gave another secret than the noted one, or one that isn't known: inside one paper,
+    nothing is compared."""
+    is_alone = len(verdict.names) == 1 and result in ("other", "same")
+    return [paper for paper in desk.papers if is_alone and paper.is_doubtful and paper.name in verdict.names]
 
 
 def _tell_repaired(screen: Screen, desk: Desk, verdict: Verdict, result: str, good: str) -> None:
@@ -120,8 +129,12 @@ def _tell_names(screen: Screen, key: str, papers: List[Paper], style: str) -> No
 def _kind(desk: Desk, verdict: Verdict, result: str) -> str:
     """Returns what the heading of a result says. A good one isn't all if a paper rests on an answer, or if papers were left out, or can't
     be read in full."""
+    if _doubted(desk, verdict, result):
+        return "doubt"
     if result in ("good", "same") and any(paper.is_answered for paper in desk.papers):
         return "answered"
+    if result == "same" and len(verdict.names) == 1:
+        return "one"
     if result == "good":
         is_whole = all(paper.name in verdict.names for paper in desk.papers)
         is_written = any(it.is_rewritten and not it.is_repaired for it in desk.papers)

@@ -155,7 +155,9 @@ def _verdict(tried: Sequence[Tried], total: int, noted: str, which: str, found: 
     wrong = [it for it in tried if not gives(it, wanted)]
     quorums = counted(len(tried), "quorum")
     if not wrong:
-        whole = "all" if len(tried) == total else "tried"
+        # Inside one paper alone, nothing is compared.
+        is_alone = len(tried[0].names) == len(tried) == 1 and which in ("same", "own.new")
+        whole = "one" if is_alone else "all" if len(tried) == total else "tried"
         return "good", [say(f"verdict.{whole}.{which}", quorums=quorums, fingerprint=wanted)]
     return _wrong(right, wrong, found, noted, quorums)
 

@@ -70,6 +70,8 @@ def _tell(screen: Screen, desk: Desk, secret: bytearray, noted: str, has_passphr
         fingerprint = shamir.fingerprint(secret)
         which = "unnoted" if not noted else "same" if gives(Tried((), fingerprint, None), noted) else "other"
         screen.tell(say(f"recover.done.{which}"), "strong")
+        if which != "same":
+            _tell_doubt(screen, desk)
         key = "recover.other.none" if which == "other" and not has_passphrase else f"recover.{which}"
         told = f"{say(key, noted=noted)} {fingerprint}", {"same": "good", "other": "bad"}.get(which, "")
         screen.tell(*told)
@@ -87,6 +89,12 @@ def _tell(screen: Screen, desk: Desk, secret: bytearray, noted: str, has_passphr
     screen.tell(f"{say('recover.next.title')}: {say('recover.next')}")
     tell_damaged(screen, desk)
     return ask_next(screen, "good" if which == "same" else "unnoted")
+
+
+def _tell_doubt(screen: Screen, desk: Desk) -> None:
+    """Says that words of the only paper were found, and not read. Inside one paper, nothing is compared."""
+    if len(desk.papers) == 1 and desk.papers[0].is_doubtful:
+        screen.tell(say("damaged.doubt", names=desk.papers[0].name), "bad")
 
 
 def _show(screen: Screen, secret: bytearray) -> None:
