@@ -1,0 +1,4 @@
+pub mod Blocks
+pub mod Digests
+pub mod Hmac
+pub mod Ripemd160
