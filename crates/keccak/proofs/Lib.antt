@@ -1,0 +1,2 @@
+pub mod MoreRounds
+pub mod Sponge
