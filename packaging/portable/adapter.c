@@ -85,35 +85,40 @@ static size_t at_most(size_t bytes, size_t most)
     return bytes < most ? bytes : most;
 }
 
-/* Allocates the memory of the module, and copies constants and arguments into it. Returns 0 if there is no memory. */
-static int begin(call *c)
+/*
+ * Allocates the memory of the module with so many bytes of its stack, and copies constants and arguments into it. Returns 0 if there is
+ * no memory.
+ */
+static int begin(call *c, u32 stack)
 {
+    void *block;
     int i;
 
     if (c->is_too_long)
         return 0;
-    c->m.size = c->end + 8;
-    c->m.data = (u8 *)SHAMIR_ALLOCATE((size_t)c->m.size);
-    if (!c->m.data)
+    c->m.first = (STACK_BYTES - RED_ZONE_BYTES - stack) & ~15u;
+    c->m.end = c->end + 8;
+    block = SHAMIR_ALLOCATE((size_t)(c->m.end - c->m.first));
+    if (!block)
         return 0;
+    c->m.origin = (uintptr_t)block - (uintptr_t)c->m.first;
     c->m.pointer = c->m.lowest = STACK_BYTES;
     c->m.deepest = FRAME();
-    memset(c->m.data + STACK_BYTES, 0, ANSWER + ANSWER_BYTES - STACK_BYTES);
-    copy_constants(c->m.data);
+    memset(PLACE(&c->m, STACK_BYTES), 0, ANSWER + ANSWER_BYTES - STACK_BYTES);
+    copy_constants(&c->m);
     for (i = 0; i < c->count; i++)
         if (c->parts[i].bytes)
-            memcpy(c->m.data + c->parts[i].at, c->parts[i].from, c->parts[i].bytes);
+            memcpy(PLACE(&c->m, c->parts[i].at), c->parts[i].from, c->parts[i].bytes);
     return 1;
 }
 
 /* Clears what the call used of its block, and frees it. */
 static void end(call *c)
 {
-    size_t from = (size_t)c->m.lowest - RED_ZONE_BYTES;
+    u64 from = c->m.lowest - RED_ZONE_BYTES;
 
-    clear(c->m.data + from, STACK_BYTES - from);
-    clear(c->m.data + ANSWER, (size_t)(c->m.size - ANSWER));
-    SHAMIR_RELEASE(c->m.data);
+    clear(PLACE(&c->m, from), (size_t)(c->m.end - from));
+    SHAMIR_RELEASE(PLACE(&c->m, c->m.first));
 }
 
 /* Returns how many bytes of the C stack to clear below this frame. */
@@ -152,7 +157,7 @@ static shamir_answer finish(call *c, void *output)
     shamir_answer answer = answer_of(&c->m);
 
     if (answer.written)
-        memcpy(output, c->m.data + c->room, (size_t)answer.written);
+        memcpy(output, PLACE(&c->m, c->room), (size_t)answer.written);
     end(c);
     return answer;
 }
@@ -178,13 +183,13 @@ static int has_struct(const module *m)
 static void copy_share(const module *m, u32 at, shamir_share *share)
 {
     share->id = (uint16_t)i32_load16_u(m, at);
-    share->extendable = m->data[at + 2];
-    share->exponent = m->data[at + 3];
-    share->group_index = m->data[at + 4];
-    share->group_threshold = m->data[at + 5];
-    share->group_count = m->data[at + 6];
-    share->member_index = m->data[at + 7];
-    share->member_threshold = m->data[at + 8];
+    share->extendable = *PLACE(m, at + 2);
+    share->exponent = *PLACE(m, at + 3);
+    share->group_index = *PLACE(m, at + 4);
+    share->group_threshold = *PLACE(m, at + 5);
+    share->group_count = *PLACE(m, at + 6);
+    share->member_index = *PLACE(m, at + 7);
+    share->member_threshold = *PLACE(m, at + 8);
 }
 
 shamir_answer shamir_parse(const char *line, size_t line_bytes, shamir_share *share, uint8_t *value, size_t value_bytes)
@@ -194,7 +199,7 @@ shamir_answer shamir_parse(const char *line, size_t line_bytes, shamir_share *sh
     size_t room_bytes = at_most(value_bytes, SHAMIR_SECRET_BYTES_MAX);
 
     c.room = place(&c, room_bytes);
-    if (!begin(&c))
+    if (!begin(&c, PARSE_STACK_BYTES))
         return no_memory();
     module_parse(&c.m, ANSWER, from, line_bytes, fields, c.room, room_bytes);
     if (has_struct(&c.m))
@@ -207,7 +212,7 @@ shamir_answer shamir_random_needed(const char *plan, size_t plan_bytes, size_t s
     call c = new_call();
     u32 from = given(&c, plan, plan_bytes);
 
-    if (!begin(&c))
+    if (!begin(&c, RANDOM_NEEDED_STACK_BYTES))
         return no_memory();
     module_random_needed(&c.m, ANSWER, from, plan_bytes, secret_bytes);
     RETURN_ANSWER(&c, NULL);
@@ -223,7 +228,7 @@ shamir_answer shamir_create(
     size_t room_bytes = at_most(mnemonics_bytes, SHAMIR_MNEMONICS_BYTES_MAX);
 
     c.room = place(&c, room_bytes);
-    if (!begin(&c))
+    if (!begin(&c, CREATE_STACK_BYTES))
         return no_memory();
     module_create(
         &c.m, ANSWER, from, plan_bytes, key, secret_bytes, words, passphrase_bytes, exponent, extendable, chance, random_bytes, c.room,
@@ -240,7 +245,7 @@ shamir_answer shamir_recover(
     size_t room_bytes = at_most(secret_bytes, SHAMIR_SECRET_BYTES_MAX);
 
     c.room = place(&c, room_bytes);
-    if (!begin(&c))
+    if (!begin(&c, RECOVER_STACK_BYTES))
         return no_memory();
     module_recover(
         &c.m, ANSWER, from, lines_bytes, words, passphrase_bytes, max_exponent, print, expected_bytes, c.room, room_bytes);
@@ -255,13 +260,13 @@ shamir_answer shamir_encrypted(
     size_t room_bytes = at_most(encrypted_bytes, SHAMIR_SECRET_BYTES_MAX);
 
     c.room = place(&c, room_bytes);
-    if (!begin(&c))
+    if (!begin(&c, ENCRYPTED_STACK_BYTES))
         return no_memory();
     module_encrypted(&c.m, ANSWER, from, lines_bytes, fields, c.room, room_bytes);
     if (has_struct(&c.m)) {
         parameters->id = (uint16_t)i32_load16_u(&c.m, fields);
-        parameters->extendable = c.m.data[fields + 2];
-        parameters->exponent = c.m.data[fields + 3];
+        parameters->extendable = *PLACE(&c.m, fields + 2);
+        parameters->exponent = *PLACE(&c.m, fields + 3);
     }
     RETURN_ANSWER(&c, encrypted);
 }
@@ -281,7 +286,7 @@ shamir_answer shamir_decrypt(
     size_t room_bytes = at_most(secret_bytes, SHAMIR_SECRET_BYTES_MAX);
 
     c.room = place(&c, room_bytes);
-    if (!begin(&c))
+    if (!begin(&c, DECRYPT_STACK_BYTES))
         return no_memory();
     store_parameters(&c.m, fields, parameters);
     module_decrypt(
@@ -298,7 +303,7 @@ shamir_answer shamir_decrypt_round(
     size_t room_bytes = at_most(undone_bytes, SHAMIR_SECRET_BYTES_MAX);
 
     c.room = place(&c, room_bytes);
-    if (!begin(&c))
+    if (!begin(&c, DECRYPT_ROUND_STACK_BYTES))
         return no_memory();
     store_parameters(&c.m, fields, parameters);
     module_decrypt_round(&c.m, ANSWER, fields, round, from, encrypted_bytes, words, passphrase_bytes, c.room, room_bytes);
@@ -314,7 +319,7 @@ shamir_answer shamir_drill(
         print = given(&c, expected, expected_bytes);
 
     c.room = place(&c, text_bytes);
-    if (!begin(&c))
+    if (!begin(&c, DRILL_STACK_BYTES))
         return no_memory();
     module_drill(
         &c.m, ANSWER, from, lines_bytes, words, passphrase_bytes, max_exponent, cursor, after_bytes, limit, form, print, expected_bytes,
@@ -329,7 +334,7 @@ shamir_answer shamir_status(const char *lines, size_t lines_bytes, char *text, s
     size_t room_bytes = at_most(text_bytes, SHAMIR_STATUS_BYTES_MAX);
 
     c.room = place(&c, room_bytes);
-    if (!begin(&c))
+    if (!begin(&c, STATUS_STACK_BYTES))
         return no_memory();
     module_status(&c.m, ANSWER, from, lines_bytes, c.room, room_bytes);
     RETURN_ANSWER(&c, text);
@@ -344,12 +349,12 @@ shamir_answer shamir_judge(
     size_t room_bytes = at_most(text_bytes, SHAMIR_STATUS_BYTES_MAX);
 
     c.room = place(&c, room_bytes);
-    if (!begin(&c))
+    if (!begin(&c, JUDGE_STACK_BYTES))
         return no_memory();
     module_judge(&c.m, ANSWER, from, lines_bytes, last, line_bytes, fields, c.room, room_bytes);
     if (has_struct(&c.m)) {
         copy_share(&c.m, fields, &judgement->share);
-        judgement->again = c.m.data[fields + SHARE_BYTES];
+        judgement->again = *PLACE(&c.m, fields + SHARE_BYTES);
     }
     RETURN_ANSWER(&c, text);
 }
@@ -359,7 +364,7 @@ shamir_answer shamir_quorums(const char *lines, size_t lines_bytes)
     call c = new_call();
     u32 from = given(&c, lines, lines_bytes);
 
-    if (!begin(&c))
+    if (!begin(&c, QUORUMS_STACK_BYTES))
         return no_memory();
     module_quorums(&c.m, ANSWER, from, lines_bytes);
     RETURN_ANSWER(&c, NULL);
@@ -374,7 +379,7 @@ shamir_answer shamir_reissue(
     size_t room_bytes = at_most(mnemonics_bytes, SHAMIR_MNEMONICS_BYTES_MAX);
 
     c.room = place(&c, room_bytes);
-    if (!begin(&c))
+    if (!begin(&c, REISSUE_STACK_BYTES))
         return no_memory();
     module_reissue(&c.m, ANSWER, of, plan_bytes, wanted, names_bytes, from, lines_bytes, c.room, room_bytes);
     RETURN_ANSWER(&c, mnemonics);
@@ -389,7 +394,7 @@ shamir_answer shamir_resplit(
     size_t room_bytes = at_most(mnemonics_bytes, SHAMIR_MNEMONICS_BYTES_MAX);
 
     c.room = place(&c, room_bytes);
-    if (!begin(&c))
+    if (!begin(&c, RESPLIT_STACK_BYTES))
         return no_memory();
     module_resplit(&c.m, ANSWER, by, plan_bytes, from, lines_bytes, chance, random_bytes, c.room, room_bytes);
     RETURN_ANSWER(&c, mnemonics);
@@ -405,7 +410,7 @@ shamir_answer shamir_create_from_encrypted(
     size_t room_bytes = at_most(mnemonics_bytes, SHAMIR_MNEMONICS_BYTES_MAX);
 
     c.room = place(&c, room_bytes);
-    if (!begin(&c))
+    if (!begin(&c, CREATE_FROM_ENCRYPTED_STACK_BYTES))
         return no_memory();
     store_parameters(&c.m, fields, parameters);
     module_create_from_encrypted(
@@ -420,7 +425,7 @@ shamir_answer shamir_repair(const char *line, size_t line_bytes, char *mnemonics
     size_t room_bytes = at_most(mnemonics_bytes, SHAMIR_REPAIRED_BYTES_MAX);
 
     c.room = place(&c, room_bytes);
-    if (!begin(&c))
+    if (!begin(&c, REPAIR_STACK_BYTES))
         return no_memory();
     module_repair(&c.m, ANSWER, from, line_bytes, c.room, room_bytes);
     RETURN_ANSWER(&c, mnemonics);
@@ -433,7 +438,7 @@ shamir_answer shamir_fingerprint(const uint8_t *secret, size_t secret_bytes, cha
     size_t room_bytes = at_most(text_bytes, SHAMIR_FINGERPRINT_BYTES_MAX);
 
     c.room = place(&c, room_bytes);
-    if (!begin(&c))
+    if (!begin(&c, FINGERPRINT_STACK_BYTES))
         return no_memory();
     module_fingerprint(&c.m, ANSWER, from, secret_bytes, c.room, room_bytes);
     RETURN_ANSWER(&c, text);
@@ -446,7 +451,7 @@ shamir_answer shamir_words(const char *letters, size_t letters_bytes, char *text
     size_t room_bytes = at_most(text_bytes, SHAMIR_WORDS_BYTES_MAX);
 
     c.room = place(&c, room_bytes);
-    if (!begin(&c))
+    if (!begin(&c, WORDS_STACK_BYTES))
         return no_memory();
     module_words(&c.m, ANSWER, from, letters_bytes, c.room, room_bytes);
     RETURN_ANSWER(&c, text);
@@ -477,7 +482,7 @@ shamir_answer shamir_text(const shamir_answer *answer, char *text, size_t text_b
     if (answer->code == SHAMIR_E_NO_MEMORY)
         return text_of_no_memory(text, text_bytes);
     c.room = place(&c, room_bytes);
-    if (!begin(&c))
+    if (!begin(&c, TEXT_STACK_BYTES))
         return no_memory();
     i32_store(&c.m, from, answer->code);
     i32_store(&c.m, from + 4, answer->mismatches);
@@ -495,7 +500,7 @@ shamir_answer shamir_version(char *text, size_t text_bytes)
     size_t room_bytes = at_most(text_bytes, SHAMIR_TEXT_BYTES_MAX);
 
     c.room = place(&c, room_bytes);
-    if (!begin(&c))
+    if (!begin(&c, VERSION_STACK_BYTES))
         return no_memory();
     module_version(&c.m, ANSWER, c.room, room_bytes);
     RETURN_ANSWER(&c, text);

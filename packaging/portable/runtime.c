@@ -38,17 +38,22 @@ typedef uint64_t u64;
 typedef int64_t s64;
 
 /*
- * The memory of a call, and how far its stacks reached. The memory begins with the stack of the module, whose pointer goes down from
- * STACK_BYTES. Then come the constants of the module, and from HEAP_BASE on what the call is given.
+ * The memory of a call, and how far its stacks reached. The stack of the module goes down from the address STACK_BYTES. Then come the
+ * constants of the module, and from HEAP_BASE on what the call is given. The block of the call begins where the stack that it needs
+ * ends, so the module has no addresses below `first`.
  */
 typedef struct {
-    u8 *data;
-    u64 size;
+    uintptr_t origin;  /* where the address 0 of the module would be */
+    u64 first;         /* the first address of the module that is in the block */
+    u64 end;           /* the address after the block */
     u64 pointer;       /* the stack pointer of the module */
     u64 lowest;        /* the lowest stack pointer of the call */
     u32 is_busy;       /* a mark that the module sets while a call is made, and 0 before it */
     uintptr_t deepest; /* the lowest address of a frame in the C stack */
 } module;
+
+/* Where an address of the module is. The sum is one of whole numbers, as no pointer may leave its block. */
+#define PLACE(m, at) ((u8 *)((m)->origin + (uintptr_t)(at)))
 
 /* A function of the module that calls no other may use this many bytes below the stack pointer. */
 #define RED_ZONE_BYTES 128u
@@ -64,7 +69,7 @@ static u32 stopped(void)
 #define SET_POINTER(to) \
     do { \
         m->pointer = (to); \
-        if (IS_RARE(m->pointer - RED_ZONE_BYTES > STACK_BYTES - RED_ZONE_BYTES)) \
+        if (IS_RARE(m->pointer < m->first + RED_ZONE_BYTES || m->pointer > STACK_BYTES)) \
             stopped(); \
         if (m->pointer < m->lowest) \
             m->lowest = m->pointer; \
@@ -74,7 +79,7 @@ static u32 stopped(void)
 
 #ifdef SHAMIR_CHECKED
 #define CHECK_ADDRESS(at, bytes) \
-    if (IS_RARE((u64)(at) + (u64)(bytes) > m->size)) \
+    if (IS_RARE((u64)(at) < m->first || (u64)(at) + (u64)(bytes) > m->end)) \
         stopped();
 #else
 #define CHECK_ADDRESS(at, bytes)
@@ -100,7 +105,7 @@ static u32 stopped(void)
     { \
         type value; \
         CHECK_ADDRESS(at, sizeof value) \
-        memcpy(&value, m->data + (size_t)at, sizeof value); \
+        memcpy(&value, PLACE(m, at), sizeof value); \
         LITTLE_ENDIAN_VALUE(type, value); \
         return (result)(extended)value; \
     }
@@ -111,7 +116,7 @@ static u32 stopped(void)
         type stored = (type)value; \
         CHECK_ADDRESS(at, sizeof stored) \
         LITTLE_ENDIAN_VALUE(type, stored); \
-        memcpy(m->data + (size_t)at, &stored, sizeof stored); \
+        memcpy(PLACE(m, at), &stored, sizeof stored); \
     }
 
 #if defined(__GNUC__)
@@ -142,15 +147,19 @@ DEFINE_STORE(i64_store32, u32, u64)
 
 static inline void memory_fill(const module *m, u32 at, u32 value, u32 bytes)
 {
+    if (!bytes)
+        return;
     CHECK_ADDRESS(at, bytes)
-    memset(m->data + at, (int)(value & 255), bytes);
+    memset(PLACE(m, at), (int)(value & 255), bytes);
 }
 
 static inline void memory_copy(const module *m, u32 to, u32 from, u32 bytes)
 {
+    if (!bytes)
+        return;
     CHECK_ADDRESS(to, bytes)
     CHECK_ADDRESS(from, bytes)
-    memmove(m->data + to, m->data + from, bytes);
+    memmove(PLACE(m, to), PLACE(m, from), bytes);
 }
 
 static inline u32 leading_zeros(u64 value, u32 bits)

@@ -6,8 +6,8 @@
 In an empty folder, `cc` builds the library and runs the vectors in test.c, and CMake installs it. Compilers of C and C++ take it without
 warnings. It exports the calls of the header alone. On generated calls, the builds for each processor and system give the
 answers of libshamir.so, without writing past an output: on x86-64 with gcc, clang, their sanitizers and threads, for other processors
-under qemu, and for Windows under wine, where these vectors run too. Without memory each call refuses, and the memory of a call is
-clear when it is freed. If the stack of the module overflows, the program stops. On x86-64, no call leaves anything secret on the C stack, or
+under qemu, and for Windows under wine, where these vectors run too. Without memory each call refuses, each needs as much as
+docs/LIBRARY.md says, and the memory of a call is clear when it is freed. If the stack of the module overflows, the program stops. On x86-64, no call leaves anything secret on the C stack, or
 needs more of it than the header says, and no branch and no address depends on secret bytes but as timing.py says. For no processor, a frame
 is so large that a call could clear too little. --only names words: the parts run whose names have one of them.
 
@@ -90,6 +90,7 @@ def other_parts() -> List[Part]:
         *with_programs("what shamir.c exports", ["gcc", "nm"], sources.has_right_symbols),
         *with_programs("the form", ["gcc"], sources.compiles_strictly),
         *with_programs("a lack of memory", ["gcc"], sources.refuses_without_memory),
+        *with_programs("the memory of a call", ["gcc"], sources.takes_little_memory),
         *with_programs("an overflow of the stack", ["gcc"], sources.stops_at_an_overflow),
         *with_programs("the worked examples", ["gcc"], sources.has_worked_examples),
         *with_programs("the installation", ["cmake", "cc"], install.is_installed),

@@ -1,7 +1,7 @@
 /*
- * tools/check_portable links driver.c with this shamir.c, whose memory comes from an allocator of its own. It gives none if EMPTY is in
- * the environment. At its end, the program has the status 6 if a block wasn't freed once, or wasn't clear then, or if a call takes
- * a length that is too great.
+ * tools/check_portable links driver.c with this shamir.c, whose memory comes from an allocator of its own. If MOST is in the environment,
+ * it gives a block only if so many bytes are enough for the part of it that doesn't hold what the call is given. At its end, the program
+ * has the status 6 if a block wasn't freed once, or wasn't clear then, or if a call takes a length that is too great.
  */
 #include <stdio.h>
 #include <stdlib.h>
@@ -10,19 +10,21 @@
 static int open_blocks, are_clear = 1;
 static size_t block_bytes;
 
-static void *allocate(size_t bytes)
+static void *allocate(size_t bytes, size_t own_bytes)
 {
-    if (getenv("EMPTY"))
+    const char *most = getenv("MOST");
+
+    if (most && own_bytes > strtoul(most, NULL, 10))
         return NULL;
     open_blocks++;
     block_bytes = bytes;
     return calloc(1, bytes);
 }
 
-/* A block has the constants of the module from STACK_BYTES to HEAP_BASE, and nothing else when it is freed. */
 static void release(void *memory);
 
-#define SHAMIR_ALLOCATE(bytes) allocate(bytes)
+/* In the function that takes a block, `c` is the call. */
+#define SHAMIR_ALLOCATE(bytes) allocate(bytes, (size_t)(ANSWER + ANSWER_BYTES - c->m.first))
 #define SHAMIR_RELEASE(memory) release(memory)
 #include "shamir.c"
 
@@ -32,7 +34,7 @@ static void release(void *memory)
     size_t i;
 
     for (i = 0; i < block_bytes; i++)
-        if (bytes[i] && (i < STACK_BYTES || i >= ANSWER))
+        if (bytes[i])
             are_clear = 0;
     open_blocks--;
     free(memory);

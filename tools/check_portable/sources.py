@@ -18,8 +18,6 @@ LIBC = {"memcpy", "memmove", "memset", "malloc", "free"}
 OF_COMPILER = {"_GLOBAL_OFFSET_TABLE_", "__stack_chk_fail"}
 FIRST_CALL = r"0\.0\+0\.1 ([0-9a-f]{8})\n0\.0\+0\.2 \1\n0\.1\+0\.2 \1\nend\n"
 NO_MEMORY = worked.Answer(4, "no memory left for the call")
-# The module may use so many bytes below its stack pointer.
-RED_ZONE = 128
 IN_CXX = """
 #include "shamir.h"
 int main()
@@ -93,19 +91,37 @@ def refuses_without_memory(folder: str) -> None:
     for words in [["-O2"], ["-O0", *builds.SANITIZED]]:
         program = driver.built(f"{folder}/driver", ["gcc"], *words, f"-I{builds.DIST}", str(builds.HERE / "no_memory.c"))
         driver.check(["env", "ASAN_OPTIONS=detect_leaks=0", program], made)
-        driver.check(["env", "ASAN_OPTIONS=detect_leaks=0", "EMPTY=1", program], refused)
+        driver.check(["env", "ASAN_OPTIONS=detect_leaks=0", "MOST=0", program], refused)
+
+
+def takes_little_memory(folder: str) -> str:
+    """Makes the worked examples of each call with as much memory as LIBRARY.md says, and with 2 kB less, with which the largest call of
+    a row is refused. Returns how much the least call takes."""
+    page = (ROOT / "docs" / "LIBRARY.md").read_text()
+    rows = re.findall(r"^\| ((?:`\w+`(?:, )?)+) \| \d+ \| (\d+) \| ", page, re.MULTILINE)
+    program = driver.built(f"{folder}/driver", ["gcc"], "-O2", "-DSHAMIR_CHECKED", f"-I{builds.DIST}", str(builds.HERE / "no_memory.c"))
+    for names, kilobytes in rows:
+        made = [(it.call, call) for it in worked.examples() if f"`{it.call}`" in names for call in worked.calls_of(it)]
+        if {name for name, _ in made} != set(re.findall(r"\w+", names)):
+            raise Failed(f"a call of the row {names} in LIBRARY.md has no worked example")
+        driver.check(["env", f"MOST={kilobytes}000", program], [call for _, call in made])
+        answers = driver.answers(["env", f"MOST={int(kilobytes) - 2}000", program], [line for _, (line, _) in made])
+        if not any(it.startswith("4 ") for it in answers):
+            raise Failed(f"no call of the row {names} in LIBRARY.md takes {kilobytes} kB")
+    return f"the memory of a call: {len(rows)} rows of LIBRARY.md are right, from {min(int(it) for _, it in rows)} kB on"
 
 
 def stops_at_an_overflow(folder: str) -> None:
     """Moves the stack pointer of the module to the ends of its stack and past them. The generated part must move it in no other way."""
     source = (builds.DIST / "shamir.c").read_text()
-    [stack] = map(int, re.findall(r"^#define STACK_BYTES (\d+)u$", source, re.MULTILINE))
+    sizes = {name: int(it) for name, it in re.findall(r"^#define (\w*STACK_BYTES) (\d+)u$", source, re.MULTILINE)}
+    stack, needed = sizes["STACK_BYTES"], sizes["PARSE_STACK_BYTES"]
     # SET_POINTER moves it, and a call lets it begin.
     if source.count("pointer = ") != 2:
         raise Failed("shamir.c moves the stack pointer of the module without a look at the ends of the stack")
     program = f"{folder}/overflow"
     run(["gcc", "-O1", "-std=c99", f"-I{builds.DIST}", str(builds.HERE / "overflow.c"), "-o", program])
-    for inside, pointers in [(True, [RED_ZONE, stack]), (False, [0, RED_ZONE - 1, stack + 1, 2**32, 2**64 - 16])]:
+    for inside, pointers in [(True, [stack - needed, stack]), (False, [0, stack - needed - 16, stack + 1, 2**32, 2**64 - 16])]:
         for pointer in pointers:
             status = subprocess.run([program, str(pointer)]).returncode
             if status != (0 if inside else -signal.SIGILL):
