@@ -2,7 +2,7 @@
 import { askForMore, askWhatNext, collectPapers } from "./collect.js";
 import { element, paragraph } from "./dom.js";
 import { askToDrill, runDrill, toldCount, toldVerdict } from "./drill.js";
-import { answered } from "./missing.js";
+import { answered, untried } from "./missing.js";
 import { askPassphrase } from "./passphrase.js";
 import { saidRefusal } from "./refusals.js";
 import { resultOf } from "./result.js";
@@ -125,9 +125,12 @@ function tellVerdict(verdict, noted, { status, kinds, left, isKept }) {
   const found = resultOf(verdict, isNoted, { here, repaired, written, lone: answered(kinds), isLeft: left !== null });
   const [first, tried, anew] = [found.first, found.tried, found.anew].map((them) => them.map(({ key, names, kind }) => paragraph(say(key, { names: names.join(", ") }), kind)));
   const again = ["other", "none"].includes(result) ? `${say(hasPassphrase ? "check.again" : "check.again.none")} ` : "";
+  const more = isGood ? untried(status, kinds[0].groupCount).map(({ key, names }) => say(key, { names: names.join(", ") })) : [];
+  // What wasn't tried stands in the box that says what was found.
+  const sentences = more.length ? [[...verdict.sentences, ...more].join(" ")] : verdict.sentences;
   const told = [
     ...first,
-    toldVerdict({ ...verdict, isEqual: verdict.isEqual && found.isRight }),
+    toldVerdict({ ...verdict, sentences, isEqual: verdict.isEqual && found.isRight }),
     ...tried,
     left,
     ...anew,

@@ -1,6 +1,6 @@
 // Which papers may be missing, and how an owner names one. The words don't say how many there are.
 import { MEMBERS_MAX } from "./plan.js";
-import { counted, say } from "./say.js";
+import { counted, formOf, say } from "./say.js";
 
 /** @typedef {import("./desk.js").Standing} Standing */
 /** @typedef {import("./plan.js").Plan} Plan */
@@ -26,6 +26,25 @@ export function candidates(status, groupCount) {
     const missing = Array.from({ length: Math.min(last + 2, MEMBERS_MAX) }, (_, member) => member).filter((member) => !here.includes(member));
     return missing.map((member) => ({ name: `${group}.${member}`, why: member < last ? "which.between" : "which.after" }));
   }).flat();
+}
+
+/**
+ * Returns what wasn't typed, and so not tried: the keys of sentences, and the names that they have. Papers are known that come before others
+ * of their group, and groups of which none is here.
+ *
+ * @param {Standing} status
+ * @param {number} groupCount
+ * @returns {{key: string, names: string[]}[]}
+ */
+export function untried(status, groupCount) {
+  const missing = candidates(status, groupCount);
+  const named = (/** @type {string} */ why) => missing.filter((it) => it.why === why).map(({ name }) => name);
+  const [papers, groups] = [named("which.between"), named("which.of_group").map((name) => name.split(".")[0])];
+  const told = [
+    { key: `verdict.untried.${formOf(papers)}`, names: papers },
+    { key: `verdict.untried.group.${formOf(groups)}`, names: groups },
+  ].filter(({ names }) => names.length);
+  return told.length || !missing.length ? told : [{ key: "verdict.untried.others", names: [] }];
 }
 
 /**

@@ -179,6 +179,25 @@ def check_untried(page, see):
     end(page)
 
 
+def check_untyped(page, see):
+    """What wasn't typed is named in the box that says that no fault was found: a paper before others, a group without papers, or any other."""
+    two, five = papers_of("2of3"), papers_of("2/2of4,1of1,1of1")
+    for lines, passphrase, noted, told in [
+        ([two[0], two[2]], None, fingerprint_of(two, ""), say("verdict.untried.one", names="0.1")),
+        (two[:2], None, fingerprint_of(two, ""), say("verdict.untried.others")),
+        ([five[0], five[3], five[4]], None, fingerprint_of(five, ""), f"{say('verdict.untried.many', names='0.1, 0.2')} {say('verdict.untried.group.one', names='2')}"),
+    ]:
+        begin(page, "check")
+        take_all(page, lines)
+        drill(page, passphrase, noted)
+        page.wait_title(say("check.done.good"))
+        said = page.evaluate("document.querySelector('.verdict .good').innerText")
+        if not said.startswith(say("verdict.all.noted", quorums=counted(1, "quorum"), fingerprint=noted)) or not said.endswith(f". {told}"):
+            raise Failed(f"the box that says what was found doesn't end with {told!r}: {said!r}")
+        see("what wasn't tried")
+        end(page)
+
+
 def check_alone(page, see):
     """Inside a backup of one paper, nothing is compared. So the words that were found in it are in doubt before its passphrase is, or the
     fingerprint, and no quorums are said to agree."""
@@ -398,4 +417,4 @@ def check_several_repaired(page, see):
         end(page)
 
 
-CHECKS = [check_apart, check_several_repaired, check_left_out, check_impossible, check_repaired, check_blamed, check_untried, check_alone, check_alike, check_lost, check_without]
+CHECKS = [check_apart, check_several_repaired, check_left_out, check_impossible, check_repaired, check_blamed, check_untried, check_untyped, check_alone, check_alike, check_lost, check_without]

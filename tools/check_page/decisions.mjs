@@ -16,7 +16,7 @@ const { derivationSeconds, LONG_EXPONENT } = await from("page/estimate.js");
 const { judge } = await from("page/judge.js");
 const { beside } = await from("page/kind.js");
 const { isBegun, resembles } = await from("page/left_out.js");
-const { candidates, mayDetermine, planWith, readName, taskOf } = await from("page/missing.js");
+const { candidates, mayDetermine, planWith, readName, taskOf, untried } = await from("page/missing.js");
 const { saidWhole } = await from("page/picture.js");
 const { planText, saidDangers, saidOthers, saidSingles, saidTakes } = await from("page/plan.js");
 const { worstLoss, worstTheft } = await from("page/plan_picture.js");
@@ -83,10 +83,11 @@ const DECISIONS = {
     const said = [[saidDangers(plan), joined(dangers)], [saidSingles(plan), joined(singles)]];
     return [[planText(plan), text], ...counts, ...sets, ...said, ...Object.entries(takes).map(([name, it]) => [saidTakes(plan, name), joined(it)])];
   },
-  missing: ({ status, groups: groupCount, needed: groupThreshold, offered, typed, plans }) => {
+  missing: ({ status, groups: groupCount, needed: groupThreshold, offered, untried: left, typed, plans }) => {
     const named = typed.map(([text, fault]) => [readName(text, status, groupCount).fault, orNull(fault)]);
     const planned = plans.map(([name, needed, text]) => [planText(planWith(status, { groupCount, groupThreshold }, Number(name.split(".")[0]), needed)), text]);
-    return [[candidates(status, groupCount).map(({ name, why }) => [name, why]), offered], ...named, ...planned];
+    const told = untried(status, groupCount).map(({ key, names }) => say(key, { names: names.join(", ") }));
+    return [[told, left.map(one)], [candidates(status, groupCount).map(({ name, why }) => [name, why]), offered], ...named, ...planned];
   },
   may_determine: ({ status, may }) => [[mayDetermine(status), may]],
   tasks_of_66: ({ plan, task }) => [[taskOf(planOf(plan)), task]],

@@ -115,6 +115,7 @@ FAULTS = [
     ("a text promises that one paper tells nothing", "page/texts.js", "and a thief hasn't.", "and a thief learns nothing.", lambda folder, url: sources.check(folder / "page"), 2),
     ("a form sends whoever finds it to a website", "page/texts.js", "the software shamir (the file shamir.html)", "the software shamir (shamir.org)", lambda folder, url: sources.check_forms(folder / "page"), 2),
     ("a form doesn't keep its words from websites", "page/forms.js", '    element("p", { class: "heirs" }, element("strong", {}, say("blank.website"))),\n', "", of_page(lambda page: forms.check_blank(page, unseen))),
+    ("what wasn't typed isn't named", "page/check_papers.js", "const more = isGood ?", "const more = false ?", of_page(lambda page: astray.check_untyped(page, unseen))),
     ("one paper is said to agree with itself", "page/verdict.js", 'right.length === 1 && right[0].names.length === 1', "false", of_page(lambda page: choices.check_looks_of_results(page, unseen))),
     ("the passphrase is blamed before words that were found", "page/result.js", "? repaired.filter(isTried) : [];", "? [] : [];", of_page(lambda page: astray.check_alone(page, unseen))),
     ("what rests on an answer is green", "page/check_papers.js", "verdict.isEqual && found.isRight", "verdict.isEqual", of_page(lambda page: steps.check_which(page, unseen))),

@@ -140,6 +140,7 @@ FAULTS = [
     ("a paper that a drill showed to be right is blamed", "check", "        desk.prove(verdict.names)\n", "        pass\n", lambda see: repaired.check_proved()),
     ("of too few papers, words that were found count as right", "check", "if any(it.is_doubtful for it in desk.papers) else too_few", "if False else too_few", lambda see: repaired.check_few()),
     ("that a group needs one paper counts as shown", "check", "answered = [paper for paper in desk.papers if paper.is_answered]", "answered = list[Paper]()", lambda see: repaired.check_lone()),
+    ("what wasn't typed isn't named", "check", 'if result in ("good", "same"):\n        more', "if False:\n        more", lambda see: repaired.check_untyped()),
     ("one paper is said to agree with itself", "drill", "is_alone = len(tried[0].names) == len(tried) == 1 and", "is_alone = False and", lambda see: repaired.check_alone()),
     ("the passphrase is blamed before words that were found", "check", "is_alone = len(verdict.names) == 1 and", "is_alone = False and", lambda see: repaired.check_alone()),
     ("the same at a recovery", "recover", "len(desk.papers) == 1 and", "False and", lambda see: repaired.check_alone()),

@@ -278,6 +278,25 @@ def check_lone():
             owner.finish(say("next.good" if noted else "next.unnoted"))
 
 
+def check_untyped():
+    """What wasn't typed is named together with what was found: a paper before others, a group without papers, or any other."""
+    two, five = papers_of("2of3"), papers_of("2/2of4,1of1,1of1")
+    for papers, lines, told in [
+        (two, [two[0], two[2]], say("verdict.untried.one", names="0.1")),
+        (two, two[:2], say("verdict.untried.others")),
+        (five, [five[0], five[3], five[4]], f"{say('verdict.untried.many', names='0.1, 0.2')} {say('verdict.untried.group.one', names='2')}"),
+    ]:
+        noted = fingerprint_of(papers, "")
+        for fingerprint, key, prompt in [(noted, "noted", "next.good"), ("", "same", "next.unnoted")]:
+            with started("check") as owner:
+                owner.collect(lines)
+                owner.passphrase("", fingerprint)
+                owner.wait(say(prompt))
+                sign = "[ok] " if fingerprint else ""
+                owner.expect(f"{sign}{say(f'verdict.all.{key}', quorums='1 quorum', fingerprint=noted)} {told}")
+                owner.finish(say(prompt))
+
+
 def check_alone():
     """Inside a backup of one paper, nothing is compared. So words that were found in it are in doubt before all else."""
     [paper] = papers_of("1of1", PASSPHRASE)
@@ -311,6 +330,7 @@ def check_alone():
 CHECKS = [
     check_whole,
     check_alone,
+    check_untyped,
     check_proved,
     check_few,
     check_lone,

@@ -144,6 +144,7 @@ class DecisionTests(unittest.TestCase):
     def missing(self, case):
         status, count = status_of(case["status"]), case["groups"]
         self.assertEqual([list(it) for it in which._candidates(status, count)], case["offered"])
+        self.assertEqual(which.untried(status, count), [said(*row) for row in case["untried"]])
         for typed, wrong in case["typed"]:
             self.assertEqual(which._fault_of(typed.strip().lower(), status, count), fault(wrong), typed)
         here = types.SimpleNamespace(papers=[paper_of("0.0", group_count=count, group_threshold=case["needed"])])

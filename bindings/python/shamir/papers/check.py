@@ -1,6 +1,7 @@
 """The task 'check': papers are typed, and every quorum among them is tried."""
 from __future__ import annotations
 
+import dataclasses
 from typing import List, Optional
 
 from shamir.papers.collect import ask_for_more, collect, tell_damaged, tell_left_out
@@ -9,6 +10,7 @@ from shamir.papers.drill import Verdict, run_drill, tell_verdict
 from shamir.papers.questions import ask_passphrase
 from shamir.papers.screen import Back, Screen
 from shamir.papers.texts import one_or_many, say
+from shamir.papers.which import untried
 
 NEXT = {"good": "good", "same": "unnoted", "stopped": "again", "other": "again", "none": "again", "some": "papers", "several": "papers"}
 
@@ -64,6 +66,9 @@ def _tell(screen: Screen, desk: Desk, verdict: Verdict, noted: str) -> str:
     _tell_names(screen, "replace.lone", answered, "bad")
     for paper in _doubted(desk, verdict, result):
         screen.tell(say("damaged.doubt", names=paper.name), "bad")
+    if result in ("good", "same"):
+        more = untried(desk.status(), desk.papers[0].group_count)
+        verdict = dataclasses.replace(verdict, sentences=[" ".join([*verdict.sentences, *more])])
     tell_verdict(screen, verdict, good if result == "good" else "")
     _tell_tried(screen, desk, verdict)
     if result in ("other", "none"):

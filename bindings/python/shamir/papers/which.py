@@ -3,7 +3,7 @@ that have it."""
 from __future__ import annotations
 
 import re
-from typing import Iterator, Optional, Tuple
+from typing import Iterator, List, Optional, Tuple
 
 import shamir
 from shamir.papers.desk import Desk
@@ -30,6 +30,16 @@ def _candidates(status: shamir.Status, count: int) -> Iterator[Tuple[str, str]]:
             last = max(here)
             for member in sorted({*range(min(last + 2, MEMBERS_MAX))} - here):
                 yield f"{number}.{member}", "which.between" if member < last else "which.after"
+
+
+def untried(status: shamir.Status, count: int) -> List[str]:
+    """Says what wasn't typed, and so not tried. Papers are known that come before others of their group, and groups of which none is here."""
+    missing = list(_candidates(status, count))
+    papers = [name for name, why in missing if why == "which.between"]
+    groups = [name.split(".")[0] for name, why in missing if why == "which.of_group"]
+    told = [("verdict.untried", papers), ("verdict.untried.group", groups)]
+    said = [say(f"{key}.{one_or_many(names)}", names=", ".join(names)) for key, names in told if names]
+    return said or [say("verdict.untried.others")] * bool(missing)
 
 
 def ask_which(screen: Screen, desk: Desk, fault: str) -> Optional[Tuple[str, Plan]]:
