@@ -2,10 +2,10 @@
 import re
 import sys
 
+import shamir_h
 from tool import ROOT
 
 CRATE = ROOT / "bindings" / "rust"
-HEADER = ROOT / "include" / "shamir.h"
 FOREIGN = "ffi.rs"
 # What stands for a type of C in the declarations.
 TYPES = {
@@ -31,21 +31,17 @@ def in_line(text):
 
 def check_declarations(foreign):
     """Checks that the crate declares the calls and structs of the header."""
-    header, declared = HEADER.read_text(), {}
+    declared = {}
     for name, given, result in re.findall(r"^    fn (shamir_\w+)\(([^)]*)\)( -> Answer)?;$", foreign, re.MULTILINE):
         declared[name] = [in_line(one) for one in given.strip().rstrip(",").split(",")] + [result]
-    wanted = {}
-    for result, name, given in re.findall(r"^(shamir_answer|void) (shamir_\w+)\(([^;]*)\);", header, re.MULTILINE):
-        parts = (re.fullmatch(r"(.*?)(\w+)", in_line(one)) for one in given.split(","))
-        wanted[name] = [f"{part[2]}: {TYPES[part[1] if part[1].endswith('*') else part[1].strip()]}" for part in parts]
-        wanted[name].append(" -> Answer" if result == "shamir_answer" else "")
+    wanted = {call: [f"{it.name}: {TYPES[it.kind]}" for it in given] for call, given in shamir_h.parameters().items()}
+    for call, (result, _, _) in shamir_h.calls().items():
+        wanted[call].append(" -> Answer" if result == "shamir_answer" else "")
     if not wanted or declared != wanted:
         sys.exit(f"bindings/rust and include/shamir.h declare these calls differently, or one of them doesn't: {difference(declared, wanted)}")
-    for struct, name in STRUCTS.items():
-        body = re.search(rf"^typedef struct {struct} \{{\n(.*?)^\}}", header, re.MULTILINE | re.DOTALL)[1]
-        fields = [(name, FIELDS[kind]) for kind, name in re.findall(r"^    (\w+) (\w+);", body, re.MULTILINE)]
-        ours = re.search(rf"^#\[repr\(C\)\]\n.*\npub\(crate\) struct {name} \{{\n(.*?)^\}}", foreign, re.MULTILINE | re.DOTALL)[1]
-        if re.findall(r"^    pub\(crate\) (\w+): (\w+),$", ours, re.MULTILINE) != fields or not fields:
+    for struct, given in shamir_h.structs().items():
+        ours = re.search(rf"^#\[repr\(C\)\]\n.*\npub\(crate\) struct {STRUCTS[struct]} \{{\n(.*?)^\}}", foreign, re.MULTILINE | re.DOTALL)[1]
+        if re.findall(r"^    pub\(crate\) (\w+): (\w+),$", ours, re.MULTILINE) != [(it.name, FIELDS[it.kind]) for it in given]:
             sys.exit(f"bindings/rust has other fields for {struct}")
 
 
@@ -56,7 +52,7 @@ def difference(ours, wanted):
 
 def check_unsafe(texts):
     """Checks that unsafe code stands in one module, and that each block rests on a sentence of the header."""
-    header = in_line(re.sub(r"^ \*/?", "", HEADER.read_text(), flags=re.MULTILINE))
+    header = in_line(re.sub(r"^ \*/?", "", shamir_h.TEXT, flags=re.MULTILINE))
     for name, text in texts.items():
         code = re.sub(r"//.*", "", text)
         if name != FOREIGN and re.search(r"\bunsafe\b|unsafe_code", code):
@@ -75,14 +71,13 @@ def check_unsafe(texts):
 
 def check_numbers(texts):
     """Checks the codes of the errors, and the numbers that the crate shares with the header."""
-    header, crate = HEADER.read_text(), "".join(texts.values())
-    codes = re.findall(r"^    SHAMIR_E_(\w+) = (\d+)\b", header, re.MULTILINE)
+    crate = "".join(texts.values())
+    codes = [("".join(part.title() for part in name.split("_")), str(number)) for name, number in shamir_h.CODES.items() if number]
     ours = re.findall(r"^    (\w+) = (\d+)(?: \{|;)", texts["error.rs"], re.MULTILINE)
-    if not codes or [("".join(part.title() for part in name.split("_")), number) for name, number in codes] != ours:
+    if codes != ours:
         sys.exit(f"bindings/rust has other codes than include/shamir.h: {ours}")
     found = {name: int(number) for name, number in re.findall(r"^(?:pub |pub\(crate\) )?const (\w+): \w+ = (\d+);$", crate, re.MULTILINE)}
-    wanted = {name: int(number) for name, number in re.findall(r"^#define SHAMIR_(\w+) (\d+)$", header, re.MULTILINE)}
-    wrong = [name for name, number in wanted.items() if name not in UNUSED and found.get(name) != number]
+    wrong = [name for name, number in shamir_h.NUMBERS.items() if name not in UNUSED and found.get(name) != number]
     if wrong:
         sys.exit(f"bindings/rust lacks {' and '.join(wrong)} of include/shamir.h, or has another number")
 

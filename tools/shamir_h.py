@@ -1,6 +1,6 @@
-"""Reads include/shamir.h: its calls, its codes and numbers, and what its comments say."""
+"""Reads include/shamir.h: its calls with their parameters, its structs, its codes and numbers, and what its comments say."""
 import re
-from typing import Dict, Iterator, List, Tuple
+from typing import Dict, Iterator, List, NamedTuple, Tuple
 
 from tool import ROOT
 
@@ -33,3 +33,27 @@ def calls(text: str = TEXT) -> Dict[str, Tuple[str, List[str], List[str]]]:
         for kind, name, given in re.findall(r"^SHAMIR_CALL.*\n(shamir_answer|void) (\w+)\(([^;]*)\);", about):
             found[name] = kind, [" ".join(one.split()) for one in given.split(",")], says
     return found
+
+
+class Declared(NamedTuple):
+    """A parameter or a field: its type, without the space before the name, and its name."""
+
+    kind: str
+    name: str
+
+
+def parameters(text: str = TEXT) -> Dict[str, List[Declared]]:
+    """Returns the parameters of each call."""
+    return {call: [declared(one) for one in given] for call, (_, given, _) in calls(text).items()}
+
+
+def structs(text: str = TEXT) -> Dict[str, List[Declared]]:
+    """Returns the fields of each struct that a call of the library reads or fills."""
+    bodies = dict(re.findall(r"^typedef struct (shamir_\w+) \{\n(.*?)^\}", text, re.MULTILINE | re.DOTALL))
+    named = {name for given in parameters(text).values() for kind, _ in given for name in re.findall(r"shamir_\w+", kind)} | {"shamir_answer"}
+    return {name: [declared(one) for one in re.findall(r"^    ([^;/]+);", bodies[name], re.MULTILINE)] for name in sorted(named)}
+
+
+def declared(text: str) -> Declared:
+    kind, name = re.fullmatch(r"(.*?)(\w+)", " ".join(text.split())).groups()  # type: ignore[union-attr]
+    return Declared(kind.strip(), name)
