@@ -1,4 +1,6 @@
-"""Papers that are pasted at once: each is judged, and nothing is dropped without a word."""
+"""Papers that are pasted at once, or typed by a machine: each is judged, and nothing is dropped without a word."""
+import time
+
 from hands import END, Failed, counted, say
 from refusals import rows_of, word_prompt
 from tasks import SIGN, Owner, end_by_keys, in_turn, paper_prompt, started
@@ -232,5 +234,88 @@ def check_tab():
         end_by_keys(owner)
 
 
-CHECKS = [check_amid, check_amid_rest, check_early, check_tab, check_answers, check_many, check_misspelt, check_rows, check_elsewhere, check_dropped, check_back, check_cut]
+def type_paced(owner, lines, pause):
+    """Types lines as a machine does, with a pause after each."""
+    for line in lines:
+        owner.type(f"{line}\n")
+        deadline = time.monotonic() + pause
+        while time.monotonic() < deadline:
+            owner.pull(max(0, deadline - time.monotonic()))
+
+
+def mend(owner, number, word, count):
+    """Types a word again that was misspelt, which is the last thing to be done for so many papers."""
+    owner.answer(word_prompt(number), word)
+    owner.wait(paper_prompt(count + 1))
+
+
+def check_paced():
+    """A machine types papers line by line, in one line or several, at a pause. One has a misspelt word, which takes no other one away, and
+    an empty line between two isn't the end."""
+    papers = papers_of("2of3")
+    whole = [[line] for line in papers]
+    apart = [[line, ""] for line in papers]
+    plain_rows = [[" ".join(line.split()[at : at + 6]) for at in range(0, 20, 6)] for line in papers]
+    headed = [["SLIP-0039", f"Paper {name_of(line)}", "", *rows_of(line), ""] for line in papers]
+    right = papers[0].split()[4]
+    for blocks, pause in [(whole, 0.3), (whole, 1), (apart, 0.8), ([rows_of(line) for line in papers], 0.5), (plain_rows, 0.3), (headed, 0.3)]:
+        lines = [line for block in blocks for line in block]
+        at = next(at for at, line in enumerate(lines) if right in line)
+        lines[at] = lines[at].replace(right, "acdemic")
+        with started("check") as owner:
+            owner.wait(paper_prompt(1))
+            type_paced(owner, lines, pause)
+            owner.answer(say("paste.mend"), "")
+            owner.expect(say("paste.taken", names=named(papers[1:])))
+            owner.expect("Not taken: the paper that begins with")
+            owner.lacks(say("screen.dropped"))
+            mend(owner, 5, right, 3)
+            end_by_keys(owner)
+
+
+def check_paced_late():
+    """Papers that come later, where those that aren't taken are to be mended, and where a word is asked for again: all are taken, or listed."""
+    papers = papers_of("3of5")
+    wrong, short = with_words(papers[0], {5: "acdemic"}), " ".join(papers[4].split()[:-1])
+    with started("check") as owner:
+        owner.wait(paper_prompt(1))
+        type_paced(owner, [wrong, papers[1]], 2)
+        owner.wait(say("paste.mend"))
+        type_paced(owner, [papers[2], short, papers[3]], 2)
+        owner.wait(say("paste.mend"))
+        owner.expect(say("paste.taken", names=named(papers[1:4])))
+        for line, why in [(wrong, "Word 5, acdemic, isn't in the word list (academic"), (short, said_count(19, 20))]:
+            owner.expect(f"Not taken: the paper that begins with '{opening(line, 4)}'. {why}")
+        owner.answer(say("paste.mend"), "")
+        owner.answer(word_prompt(5), papers[0].split()[4])
+        owner.answer(on(19, 20), papers[4].split()[-1])
+        owner.wait(paper_prompt(6))
+        owner.lacks(say("screen.dropped"))
+        end_by_keys(owner)
+
+
+def check_paced_amid():
+    """Papers that come while the program says that a word is wrong, or asks whether a word that was found is right."""
+    papers = papers_of("3of5")
+    with started("check") as owner:
+        owner.answer(paper_prompt(1), with_words(papers[0], {5: "?"}))
+        sure = f"{say('damaged.sure', name=name_of(papers[0]))} (y/n)"
+        owner.wait(sure)
+        type_paced(owner, papers[1:3], 0.3)
+        owner.wait(sure)
+        owner.expect(say("screen.kept"))
+        owner.type("y\n")
+        owner.wait(paper_prompt(4))
+        for text in (say("collect.row.repaired", name="0.0", words=20), say("paste.taken", names=named(papers[1:3]))):
+            owner.expect(text)
+        # When the owner begins a paper again, others are there already.
+        owner.answer(paper_prompt(4), with_words(papers[3], {5: "acdemic"}))
+        owner.wait(word_prompt(5))
+        owner.type("\n".join([SIGN, *papers[3:]]) + "\n")
+        owner.wait(paper_prompt(6))
+        owner.lacks(say("screen.dropped"))
+        end_by_keys(owner)
+
+
+CHECKS = [check_paced, check_paced_late, check_paced_amid, check_amid, check_amid_rest, check_early, check_tab, check_answers, check_many, check_misspelt, check_rows, check_elsewhere, check_dropped, check_back, check_cut]
 check = in_turn(CHECKS)

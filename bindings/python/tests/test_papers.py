@@ -81,6 +81,9 @@ class Scripted:
         # What follows an empty line of a script is pasted.
         return seconds > 0 and self.last == "" and bool(self.answers)
 
+    def goes_on(self):
+        return False
+
     def pasted(self, most):
         text, self.answers = "\n".join([*self.answers, ""]), []
         return text, False

@@ -1,5 +1,6 @@
 """Tests how `shamir.papers` keeps papers of several backups apart, without a terminal. The papers are published vectors, or another program
 made them."""
+import contextlib
 import dataclasses
 import pathlib
 import sys
@@ -59,6 +60,12 @@ class Answered(Scripted):
 
     def pause(self, prompt):
         self.asked.append(prompt)
+
+    def keeping(self):
+        return contextlib.nullcontext()
+
+    def took_kept(self):
+        return False
 
     def is_pasted(self, seconds):
         return False

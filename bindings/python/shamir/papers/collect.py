@@ -7,8 +7,8 @@ import shamir
 from shamir.papers.backups import ask_backup, ask_named, label, show_typed
 from shamir.papers.desk import Desk, Paper, paper_of
 from shamir.papers.entry import Entry
-from shamir.papers.judged import begin, judge_all, tell_judged
-from shamir.papers.paste import Pasted, ask_whole
+from shamir.papers.judged import Judged, begin, judge_all, tell_judged
+from shamir.papers.paste import Pasted, ask_whole, papers_in
 from shamir.papers.refusals import said_foreign
 from shamir.papers.screen import Screen
 from shamir.papers.spelling import DROP, parts_of
@@ -23,6 +23,12 @@ def collect(screen: Screen, desk: Desk, title: str, intro: str, task: str = "", 
         screen.hold(say("end.typed"))
     screen.clear(title)
     screen.tell(intro)
+    with screen.keeping():
+        _collect(screen, desk, title, task, typed)
+
+
+def _collect(screen: Screen, desk: Desk, title: str, task: str, typed: str) -> None:
+    """Lets the owner type papers until no more come."""
     entry = Entry(screen, desk.word_count, leave=desk.leave_out, takes_several=True)
     if desk.papers:
         screen.tell(f"{say('collect.found')}:")
@@ -44,7 +50,7 @@ def collect(screen: Screen, desk: Desk, title: str, intro: str, task: str = "", 
         except Pasted as pasted:
             left += _take_pasted(screen, desk, title, pasted.texts, task)
             is_more = True
-        if not is_more and not left and ask_backup(screen, desk, title, task):
+        if not is_more and not left and ask_backup(screen, desk, title, task) and not screen.took_kept():
             return
         typed = ""
 
@@ -72,18 +78,21 @@ def _collect_one(screen: Screen, desk: Desk, title: str, entry: Entry, task: str
 
 
 def _take_pasted(screen: Screen, desk: Desk, title: str, texts: List[str], task: str) -> List[str]:
-    """Takes the papers of a paste that are right, and says what is taken and what isn't. Returns the texts of those that the owner can
-    mend."""
-    found = judge_all(desk, texts)
-    if desk.papers and not screen.is_held:
-        screen.hold(say("end.typed"))
-    screen.clear(title)
-    tell_judged(screen, desk, found)
-    if desk.papers:
-        show_typed(screen, desk, task)
-    if found.left:
-        screen.pause(say("paste.mend"))
-    return found.left
+    """Takes the papers of a paste that are right, and says what is taken and what isn't, also of those that come while the owner reads that.
+    Returns the texts of those that the owner can mend."""
+    found = Judged()
+    while True:
+        judge_all(desk, texts, found)
+        if desk.papers and not screen.is_held:
+            screen.hold(say("end.typed"))
+        screen.clear(title)
+        tell_judged(screen, desk, found)
+        if desk.papers:
+            show_typed(screen, desk, task)
+        more = ask_whole(screen, say("paste.mend"), desk.word_count) if found.left else ""
+        if not more.strip():
+            return found.left
+        texts = papers_in(more, desk.word_count([]))
 
 
 def _take(screen: Screen, desk: Desk, title: str, paper: Paper, task: str) -> None:
@@ -175,14 +184,14 @@ def ask_for_more(screen: Screen, desk: Desk, title: str, told: str, task: str = 
     show_status(screen, desk.papers, task)
     tell_left_out(screen, desk)
     tell_damaged(screen, desk)
-    return _ask_more(screen)
+    return _ask_more(screen, desk)
 
 
-def _ask_more(screen: Screen) -> Optional[str]:
+def _ask_more(screen: Screen, desk: Desk) -> Optional[str]:
     """Asks whether to end or to type more. Papers that are typed here are the next ones."""
     words = shamir.words("")
     while True:
-        typed = ask_whole(screen, say("more.papers")).strip()
+        typed = ask_whole(screen, say("more.papers"), desk.word_count).strip()
         if typed.lower() == "e":
             return None
         parts = parts_of(typed)

@@ -11,11 +11,12 @@ import shamir
 from shamir.papers.desk import Paper, resembles
 from shamir.papers.found import ask_paper
 from shamir.papers.marks import FEW, MANY, Counting, judged, refused, said_count, said_unknown, unknown
-from shamir.papers.paste import PASTE_MAX, Pasted, ask_whole, papers_in
+from shamir.papers.paste import Pasted, ask_whole, papers_in
 from shamir.papers.refusals import said_refusal, wrong_word
 from shamir.papers.screen import Screen
 from shamir.papers.spelling import DROP, LEAST, Part, continued, has_idle_number, numbers_of, parts_of, placed, read, said_empty
 from shamir.papers.spelling import seems_bip39, taken_out
+from shamir.papers.terminal import PASTE_MAX
 from shamir.papers.texts import counted, say
 
 # If more words than this part of them aren't in the list, they are of another list.
@@ -63,7 +64,7 @@ class Entry:
         """
         while True:
             is_pasted = self._screen.is_pasted(0)
-            text, typed = self._one_of(typed or ask_whole(self._screen, prompt, has_back)), ""
+            text, typed = self._one_of(typed or ask_whole(self._screen, prompt, self._counting, has_back)), ""
             name = taken_out(text)
             if name is not None:
                 return [DROP + name]

@@ -32,14 +32,12 @@ def begin(text: str) -> str:
     return " ".join(word for _, word in parts_of(text)[:BEGIN_WORDS])
 
 
-def judge_all(desk: Desk, texts: List[str]) -> Judged:
-    """Takes each paper that is sound, and that the library doesn't refuse beside the others."""
-    found = Judged()
+def judge_all(desk: Desk, texts: List[str], found: Judged) -> None:
+    """Takes each paper that is sound, and that the library doesn't refuse beside the others, and adds what is found."""
     for text in texts:
         why = _fault_of(desk, text, found)
         if why:
             found.faults.append((begin(text), why))
-    return found
 
 
 def _fault_of(desk: Desk, text: str, found: Judged) -> str:

@@ -6,6 +6,7 @@ Python's readline isn't used: it keeps copies of what is typed, reads the owner'
 from __future__ import annotations
 
 import signal
+import time
 from typing import Callable, List, Optional
 
 from shamir.papers.keys import IDLE_KEY, Keys
@@ -15,6 +16,8 @@ ENTER, TAB, SPACE = (10, 13), 9, 32
 END_OF_INPUT, BACKSPACE, ERASE_LINE, ERASE_WORD = 4, (8, 127), 21, 23
 LENGTH_MAX = 2000
 SHOWN_MAX = 10
+# A line with so many keys or more came from a machine, if each took less than this time.
+QUICK_KEYS, QUICK_SECONDS = 6, 0.04
 
 # Returns the words that begin with these letters.
 Completer = Callable[[str], List[str]]
@@ -53,6 +56,8 @@ class Line:
         self._place = 0
         # Whether more was typed than a line can have.
         self.is_cut = False
+        # Whether it came faster than hands type.
+        self.is_quick = False
 
     def read(self) -> bytearray:
         """Returns what is typed, without its end. After Ended, it may be called again, and goes on."""
@@ -60,9 +65,13 @@ class Line:
             self._is_asked = True
             self._place = self._terminal.place
             self._terminal.write(self._prompt + ("" if self._is_hidden else _shown(self._typed)))
+        count, begun = 0, time.monotonic()
         while True:
             key = self._keys.next()
+            begun = begun if count else time.monotonic()
+            count += 1
             if key in ENTER:
+                self.is_quick = count > QUICK_KEYS and time.monotonic() - begun < count * QUICK_SECONDS
                 self._end_word()
                 self._terminal.write("\n")
                 return self._typed

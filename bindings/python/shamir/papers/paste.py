@@ -5,13 +5,12 @@ import itertools
 from typing import Dict, List, Optional
 
 import shamir
+from shamir.papers.marks import Counting, judged
 from shamir.papers.screen import Screen
 from shamir.papers.spelling import HEADING, LEAST, MOST, parts_of, placed, read
-from shamir.papers.terminal import PASTE_SECONDS
+from shamir.papers.terminal import PASTE_MAX, PASTE_SECONDS
 from shamir.papers.texts import say
 
-# So many bytes of a paste are read: more than all papers of a backup have.
-PASTE_MAX = 1 << 16
 # So many runs of lines are tried, which takes a moment. A paste of papers needs far fewer.
 TRIES_MAX = 20_000
 
@@ -24,20 +23,27 @@ class Pasted(Exception):
         self.texts = texts
 
 
-def ask_whole(screen: Screen, prompt: str, has_back: bool = False) -> str:
-    """Asks for a paper, and returns all lines that are pasted. What follows the last end of a line stands behind the question again."""
+def ask_whole(screen: Screen, prompt: str, counting: Counting, has_back: bool = False) -> str:
+    """Asks for a paper, and returns all lines that are pasted. What follows the last end of a line stands behind the question again. If a
+    machine types line after line, at a pause, they are read up to the end of the last paper that is sound."""
 
     def ask(begun: str) -> str:
         return screen.ask(prompt, shamir.words, has_back, begun)
 
     text = ask("")
-    while screen.is_pasted(PASTE_SECONDS):
+    while screen.is_pasted(PASTE_SECONDS) or (not _is_sound(text, counting) and screen.goes_on()):
         more, is_cut = screen.pasted(PASTE_MAX)
         *lines, last = more.split("\n")
         if is_cut:
             screen.tell_seen(say("paste.cut", end=" ".join(more.split()[-2:])))
         text = "\n".join([text, *lines, ask(last) if last else ""])
     return text
+
+
+def _is_sound(text: str, counting: Counting) -> bool:
+    """Whether a text is papers that are sound, and nothing else."""
+    texts = papers_in(text, counting([]))
+    return bool(texts) and all(judged(it, counting)[0] is not None for it in texts)
 
 
 class _Lines:

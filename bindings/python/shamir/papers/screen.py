@@ -4,15 +4,17 @@ If more is shown than fits, the screen waits for Enter before the first lines le
 """
 from __future__ import annotations
 
+import contextlib
 import os
 import signal
 import textwrap
 import threading
 import time
-from typing import Callable, Dict, Generic, Iterable, List, Optional, Sequence, Tuple, TypeVar
+from typing import Callable, Dict, Generic, Iterable, Iterator, List, Optional, Sequence, Tuple, TypeVar
 
 from shamir.papers.line import Completer, Line, first_key, wipe
-from shamir.papers.terminal import PASTE_SECONDS, SEQUENCE, Ended, Resized, Terminal
+from shamir.papers.spelling import parts_of
+from shamir.papers.terminal import PASTE_MAX, PASTE_SECONDS, SEQUENCE, Ended, Resized, Terminal
 from shamir.papers.texts import said_time, say
 
 T = TypeVar("T")
@@ -29,6 +31,10 @@ SHOWN_AFTER = 1.0
 BACK = "b"
 # This key asks whether to stop a long work.
 STOP = "s"
+# A machine that types line after line has a shorter pause than this.
+PAUSE_SECONDS = 1.25
+# So many words or more may be of a paper.
+KEPT_LEAST = 4
 
 
 def wrapped(text: str, width: int) -> List[str]:
@@ -62,6 +68,10 @@ class Screen:
         self._begun = bytearray()
         # What would be lost if the owner ended now.
         self._held = ""
+        # Whether papers are asked for, so that what may be one isn't dropped, and whether some wait to be read.
+        self._keeps = self._is_kept = False
+        # Until then, a machine that types line after line may go on.
+        self._quick_until = 0.0
 
     @property
     def _width(self) -> int:
@@ -96,10 +106,10 @@ class Screen:
         """Asks whether to end, if something would be lost. If the owner stays, the screen is again as it was."""
         if by.number != signal.SIGINT or not self._held:
             raise by
-        held, rows, begun, tells = self._held, self._rows, self._begun, self._terminal.tells_size
+        held, rows, begun, tells, keeps = self._held, self._rows, self._begun, self._terminal.tells_size, self._keeps
         # At this question, Ctrl-C ends at once.
         self.hold("")
-        self._terminal.tells_size = False
+        self._terminal.tells_size = self._keeps = False
         with self._terminal.aside():
             self._rows, self._begun = 0, bytearray()
             self.tell(say("end.title"), "title")
@@ -109,7 +119,7 @@ class Screen:
                 raise by
             # The owner may press the keys again as soon as the screen shows what it showed before.
             self.hold(held)
-        self._rows, self._begun, self._terminal.tells_size = rows, begun, tells
+        self._rows, self._begun, self._terminal.tells_size, self._keeps = rows, begun, tells, keeps
 
     def _held_on(self, call: Callable[[], T]) -> T:
         """Returns what a call gives that waits for keys. If the owner wants to end, but stays, it is called again."""
@@ -200,6 +210,7 @@ class Screen:
             begun, self._begun = self._begun, bytearray()
             line = Line(self._terminal, last + " ", complete, is_hidden, begun, hint)
             typed = self._held_on(line.read)
+            self._note_quick(line.is_quick, bool(typed))
             self._rows = 0
             self._unseen.clear()
             if not line.is_cut:
@@ -212,10 +223,19 @@ class Screen:
         """Whether more is typed within this time, as only a paste can be so soon."""
         return self._terminal.is_typed(seconds)
 
+    def _note_quick(self, is_quick: bool, is_typed: bool = True) -> None:
+        if is_quick or is_typed:
+            self._quick_until = time.monotonic() + PAUSE_SECONDS if is_quick else 0.0
+
+    def goes_on(self) -> bool:
+        """Whether more comes soon after a line that came faster than hands type, or after an empty one that followed it."""
+        return time.monotonic() < self._quick_until and self._terminal.is_typed(PAUSE_SECONDS)
+
     def pasted(self, most: int) -> Tuple[str, bool]:
         """Returns the rest of a paste, up to so many bytes, and whether there was more. Keys that move or erase are left out."""
         read = bytearray()
         is_cut = self._terminal.pasted(read, most)
+        self._note_quick(True)
         text = _printable(read)
         wipe(read)
         return text, is_cut
@@ -232,15 +252,25 @@ class Screen:
 
     def choose(self, prompt: str, answers: Dict[str, T], default: Optional[str] = None, has_back: bool = False, is_hidden: bool = False) -> T:
         """Asks until one of the answers is given, or none if there is a default. A hidden answer doesn't show. If a paste comes in place of an
-        answer, it is dropped as a whole, and not taken line by line."""
-        while True:
-            typed = self.ask(prompt, has_back=has_back, is_hidden=is_hidden).strip().lower() or default or ""
-            if typed in answers:
-                return answers[typed]
-            if self.is_pasted(PASTE_SECONDS):
-                self.drop_typed()
-            told = [key or "Enter" for key in answers] + [BACK] * has_back
-            self.tell(say("screen.answers", answers=", ".join(told)), "bad")
+        answer, it is dropped as a whole, and not taken line by line. Where papers are asked for, it is read after the answer."""
+        kept = ""
+        try:
+            while True:
+                typed = self.ask(prompt, has_back=has_back, is_hidden=is_hidden).strip().lower() or default or ""
+                if typed in answers:
+                    return answers[typed]
+                is_kept = self._keeps and len(parts_of(typed)) >= KEPT_LEAST
+                if is_kept:
+                    kept += f"{typed}\n{self.pasted(PASTE_MAX)[0]}"
+                    self.tell(say("screen.kept"))
+                elif self.is_pasted(PASTE_SECONDS):
+                    self.drop_typed()
+                told = [key or "Enter" for key in answers] + [BACK] * has_back
+                self.tell(say("screen.answers", answers=", ".join(told)), "bad")
+        finally:
+            if kept:
+                self._is_kept = True
+                self._terminal.put_back(kept.encode())
 
     def agree(self, prompt: str, has_back: bool = False, is_hidden: bool = False) -> bool:
         """Asks for yes or no, until one of them is given. Where a secret may be typed by mistake, the answer is hidden."""
@@ -275,13 +305,18 @@ class Screen:
     def _more(self, clears: bool = False) -> None:
         """Waits until the owner has read what is shown, and takes the question for that away, or the whole screen. A key other than Enter
         goes on too, and is the first one of the answer to the question that follows."""
+        kept = self._papers_ahead()
         is_dropped = self._terminal.drop_typed()
         if is_dropped:
             # The key that went on before was the first one of what is dropped.
             wipe(self._begun)
             self._begun = bytearray()
         self._terminal.write(say("screen.more") + " ")
-        self._begun += self._held_on(lambda: first_key(self._terminal))
+        key = self._held_on(lambda: first_key(self._terminal))
+        if kept:
+            self._terminal.put_back(kept + key)
+        else:
+            self._begun += key
         self._terminal.write("\n" if self._terminal.is_plain else "\r\x1b[J")
         if clears:
             self._terminal.clear()
@@ -290,9 +325,41 @@ class Screen:
         if is_dropped:
             self.tell_seen(say("screen.dropped"))
 
+    @contextlib.contextmanager
+    def keeping(self) -> Iterator[None]:
+        """Drops nothing that may be a paper, as long as papers are asked for."""
+        self._keeps, self._is_kept = True, False
+        try:
+            yield
+        finally:
+            self._keeps = False
+
+    def took_kept(self) -> bool:
+        """Whether papers that came at another question wait to be read, since this was asked before."""
+        is_kept, self._is_kept = self._is_kept, False
+        return is_kept
+
+    def _papers_ahead(self) -> bytes:
+        """Takes what was typed and not read, if it may be a paper, and papers are asked for."""
+        if not self._keeps or not self.is_pasted(0):
+            return b""
+        read = bytearray()
+        if self._terminal.pasted(read, PASTE_MAX):
+            self.tell_seen(say("screen.dropped"))
+        whole = bytes(self._begun + read)
+        if len(parts_of(_printable(whole))) < KEPT_LEAST:
+            self._terminal.put_back(read)
+            return b""
+        self._begun = bytearray()
+        return whole
+
     def drop_typed(self) -> bool:
         """Drops what was typed and not read, such as the rest of a paste that the owner doesn't see. If it was more than Enter, says so,
-        and returns True."""
+        and returns True. Where papers are asked for, what may be one stays, to be read next."""
+        kept = self._papers_ahead()
+        if kept:
+            self._terminal.put_back(kept)
+            return False
         is_begun = bool(self._begun.strip())
         wipe(self._begun)
         self._begun = bytearray()

@@ -26,6 +26,8 @@ UNSHOWN = "*"
 NO_KEY = 0
 # Within this time after what was typed, only a paste has more.
 PASTE_SECONDS = 0.05
+# So many bytes of a paste are read: more than all papers of a backup have.
+PASTE_MAX = 1 << 16
 # What keys such as arrows send, and what the terminal itself answers.
 SEQUENCE = re.compile(rb"\x1b+(\[\[.|\[M...|\[[0-?]*[ -/]*[@-~]?|O[0-9;]*.|[]PX^_][^\x07\x1b\r\n]*(?:\x07|\x1b\\)?|[ -/]*[0-~]?)", re.DOTALL)
 RETURN, LINE_FEED = 13, 10

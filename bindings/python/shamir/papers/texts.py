@@ -48,6 +48,7 @@ OWN: Dict[str, str] = {
     "screen.long": "More was typed than a line can have, so it isn't taken. Type it again.",
     "screen.answers": "Type one of these: {answers}.",
     "screen.dropped": "What you typed or pasted before this isn't taken.",
+    "screen.kept": "This is no answer. It is kept, and read as papers after this question.",
     "screen.lines": "This takes one line, and several were pasted. Type it again.",
     "line.keys": "The cursor doesn't move here. Backspace takes the last letter away, Ctrl-W the last word, and Ctrl-U all that was typed.",
     "screen.yes": "(y/n)",
