@@ -122,7 +122,7 @@ async function renewWith(desk, made, kind) {
   setStep(4);
   for (;;) {
     /** @type {string | null} */
-    const given = await askPassphrase(desk, { title: say("change.passphrase"), why: say("change.passphrase.why"), fault, noted });
+    const given = await askPassphrase(desk, { title: say("change.passphrase"), why: say("change.passphrase.why"), fault, noted, isTwice: true });
     if (given === null) return 0;
     noted = given;
     const found = await renewed(desk, kind, { ...made, noted });
@@ -215,10 +215,11 @@ function tellDone(verdict, { plan, kind: { extendable } }, given) {
   setUnfinished("");
   // Without the flag, the new papers are made with one passphrase. With a mistyped one, old and new papers give the same wrong secret.
   const isUnproved = !given && !extendable;
+  const old = isUnproved ? "change.old.unproved" : extendable ? "change.old" : "change.old.renewed";
   const told = [
+    isUnproved ? paragraph(say("change.unnoted"), "bad") : null,
     toldVerdict(verdict),
-    paragraph(say("change.same"), "note"),
-    isUnproved ? paragraph(say("change.unnoted"), "note") : null,
+    isUnproved ? null : paragraph(say("change.same"), "note"),
     given ? null : paragraph(say(given === null ? "change.bare.noted" : "change.noted.first"), "note"),
     paragraph(say("change.restore"), "note"),
     element("h2", {}, say("change.new.title")),
@@ -226,7 +227,7 @@ function tellDone(verdict, { plan, kind: { extendable } }, given) {
     paragraph(say(planNames(plan).length === 1 ? "make.keep.one" : "make.keep")),
     verdict.table,
     element("h2", {}, say("change.old.title")),
-    paragraph(say(extendable ? "change.old" : "change.old.renewed")),
+    paragraph(say(old)),
     paragraph(say("change.mixed")),
     paragraph(say("change.thief")),
     paragraph(say("close")),

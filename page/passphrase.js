@@ -15,8 +15,9 @@ const LONGEST = 1024;
  *
  * @param {Desk} desk
  * @param {boolean} isTwice
+ * @param {() => boolean} [isAgain] whether it is to be typed again
  */
-export function passphraseFields(desk, isTwice) {
+export function passphraseFields(desk, isTwice, isAgain = () => true) {
   const texts = { show: say("show"), hide: say("hide") };
   const first = hidden(say("passphrase.label"), { ...texts, hint: say("passphrase.hint") });
   const again = isTwice ? hidden(say("passphrase.again"), texts) : null;
@@ -38,12 +39,12 @@ export function passphraseFields(desk, isTwice) {
     if (typed === "") return say("passphrase.missing");
     if (fault.textContent !== "") return say("passphrase.unfit");
     if (isTwice && typed.length > LONGEST) return say("passphrase.long");
-    if (again && again.field.value !== typed) return say("passphrase.differ");
+    if (again && isAgain() && again.field.value !== typed) return say("passphrase.differ");
     if (typed === typed.trim() || isAsked) return null;
     isAsked = true;
     return say("passphrase.space");
   };
-  return { box, missing, read: () => bytesOf(first.field.value) };
+  return { box, again: again?.box ?? null, missing, isNone: () => none.field.checked, read: () => bytesOf(first.field.value) };
 }
 
 /**
@@ -84,7 +85,7 @@ export function notedFields(desk, noted, mayLack = true) {
     const isRight = await desk.ask("isFingerprint", { noted: typed }).catch(() => true);
     return isRight ? null : say(mayLack ? "noted.wrong" : "proof.wrong");
   };
-  return { box: element("div", { class: "fields" }, box, mayLack ? none.box : null), missing, read };
+  return { box: element("div", { class: "fields" }, box, mayLack ? none.box : null), missing, isNone: () => none.field.checked, read };
 }
 
 /**
@@ -92,12 +93,19 @@ export function notedFields(desk, noted, mayLack = true) {
  * none was noted, or null if the owner wants to go back.
  *
  * @param {Desk} desk
- * @param {{title: string, fault: string, noted: string | null, why?: string, back?: string, mayLack?: boolean, refuse?: (noted: string) => string | null}} what `noted` is the
+ * @param {{title: string, fault: string, noted: string | null, why?: string, back?: string, mayLack?: boolean, isTwice?: boolean, refuse?: (noted: string) => string | null}} what `noted` is the
  *   fingerprint that was given before, or null. `why` says what both are asked for, `back` is the answer that goes back, or an empty text if there is none, and `mayLack`
- *   says whether the owner may have noted no fingerprint. `refuse` says what is wrong with a fingerprint, or null: then what was typed stays
+ *   says whether the owner may have noted no fingerprint. `isTwice` says that the passphrase is then typed twice. `refuse` says what is wrong with a fingerprint, or null:
+ *   then what was typed stays
  */
-export async function askPassphrase(desk, { title, fault, noted, why = say("passphrase.why"), back = say("back"), mayLack = true, refuse = () => null }) {
-  const [passphrase, fingerprint] = [passphraseFields(desk, false), notedFields(desk, noted, mayLack)];
+export async function askPassphrase(desk, { title, fault, noted, why = say("passphrase.why"), back = say("back"), mayLack = true, isTwice = false, refuse = () => null }) {
+  const fingerprint = notedFields(desk, noted, mayLack);
+  const isAgain = () => isTwice && fingerprint.isNone() && !passphrase.isNone();
+  const passphrase = passphraseFields(desk, isTwice, isAgain);
+  const again = element("div", { class: "fields" }, paragraph(say("passphrase.twice"), "hint"), passphrase.again);
+  const draw = () => (again.hidden = !isAgain());
+  for (const { box } of [passphrase, fingerprint]) box.addEventListener("input", draw);
+  draw();
   const typed = { passphrase: new Uint8Array(), fingerprint: "" };
   const take = async () => {
     const lacks = passphrase.missing() ?? (await fingerprint.missing()) ?? refuse(fingerprint.read());
@@ -105,7 +113,7 @@ export async function askPassphrase(desk, { title, fault, noted, why = say("pass
     return lacks;
   };
   const refused = fault ? [paragraph(fault, "fault"), paragraph(say("passphrase.emptied"), "fault")] : [];
-  const children = [...refused, paragraph(why), passphrase.box, fingerprint.box];
+  const children = [...refused, paragraph(why), passphrase.box, fingerprint.box, again];
   const answer = await ask(title, children, [
     { key: "go", label: say("continue"), kind: "primary", take },
     ...(back ? [{ key: "back", label: back, kind: back === say("back") ? BACK : "" }] : []),

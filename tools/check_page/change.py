@@ -76,7 +76,9 @@ def finish(page):
 def check_done(page, see, what, texts, green, title="change.done"):
     page.wait_title(say(title))
     keep = say("make.keep").split(". ")[1]
-    page.wait_text(*texts, keep, say("change.same"), say("change.restore"), say("change.mixed"), say("change.thief"))
+    page.wait_text(*texts, keep, say("change.restore"), say("change.mixed"), say("change.thief"))
+    if (say("change.same") in page.text()) != (title == "change.done"):
+        raise Failed("that old and new papers agree isn't said, or is said though nothing was compared")
     if page.text().index(say("change.restore")) > page.text().index(say("change.old.title")):
         raise Failed("what is to be destroyed is told before what is to be done first")
     check_green(page, green)
@@ -158,11 +160,14 @@ def check_renewed(page, see):
         page.push(say("continue"))
         page.wait_text(say("change.passphrase.why"))
         pictures(page, see, "the passphrase")
-        answer_passphrase(page, "TREZOr" if noted else PASSPHRASE, noted)
         if noted:
+            page.lacks(say("passphrase.twice"), "beside a noted fingerprint, the passphrase is asked for twice")
+            answer_passphrase(page, "TREZOr", noted)
             page.wait_text(say("recover.other", noted=FINGERPRINT))
             page.fill(say("passphrase.label"), PASSPHRASE)
             page.push(say("continue"))
+        else:
+            type_twice(page, see)
         new = write(page, see, old)
         check_backups(old, new, "2of3", int(wallet == "flag"))
         if not noted:
@@ -181,11 +186,27 @@ def check_renewed(page, see):
         if noted:
             check_done(page, see, f"done, not extendable, {wallet}", [verdict, say("change.old.renewed")], [verdict])
         else:
-            texts = [verdict, say("change.noted.first"), say("change.old.renewed")]
+            texts = [verdict, say("change.noted.first"), say("change.old.unproved")]
             check_done(page, see, f"done, not extendable, {wallet}", texts, [], "change.done.unproved")
-            if page.text().index(say("change.unnoted")) > page.text().index(say("change.restore")):
-                raise Failed("that the old papers stay is told after what is to be done")
+            first = page.evaluate("(({ className, innerText }) => `${className} ${innerText}`)(document.querySelector('#main > h1 ~ *'))")
+            if first != f"bad {say('change.unnoted')}":
+                raise Failed(f"that nothing was compared isn't said first, and in red, but {first!r}")
+            page.lacks(say("change.old.renewed"), "that old and new papers agree is said though nothing was compared")
         finish(page)
+
+
+def type_twice(page, see):
+    """Types the passphrase of old papers without a noted fingerprint. Nothing else shows a mistyped one, so it is typed twice."""
+    page.fill(say("passphrase.label"), PASSPHRASE)
+    page.tick(say("noted.none"))
+    page.wait_text(say("passphrase.twice"))
+    for again in ("", "TREZOr"):
+        page.retype(say("passphrase.again"), again)
+        page.push(say("continue"))
+        page.wait_text(say("passphrase.differ"))
+    pictures(page, see, "the passphrase typed twice")
+    page.retype(say("passphrase.again"), PASSPHRASE)
+    page.push(say("continue"))
 
 
 def check_refused(page, see):

@@ -25,7 +25,7 @@ def check_big(page, see):
     # The first 1,000 quorums have the papers 0.0 to 0.3, 1.0 to 1.7 and 2.0 to 2.7, so one more is tried with each of 0.4 to 0.7.
     tried = FIRST + MEMBERS - NEEDED
     page.wait_text(say("drill.tried", tried=f"{tried:,}", total=total))
-    verdict = say("verdict.tried.noted", fingerprint=fingerprint)
+    verdict = f"{say('verdict.tried.noted', fingerprint=fingerprint)} {say('verdict.untried.others')}"
     page.wait_text(verdict)
     # A count is no comparison.
     check_green(page, [verdict])

@@ -53,13 +53,17 @@ def check_unnoted():
         with started("change") as owner:
             owner.collect(old[:2])
             if not is_extendable:
+                owner.passphrase("", "")
+                owner.answer(f"{say('new.passphrase.none')} {say('screen.yes')}", "n")
                 owner.passphrase(passphrase, "")
             new = change(owner, "1of1", "" if is_extendable else "1")
             owner.passphrase(passphrase, "")
             owner.wait(say("screen.end"))
-            owner.expect(say("change.agree"))
             owner.expect(say(key))
-            owner.expect(say("change.done" if is_extendable else "change.done.unproved"))
+            if is_extendable:
+                owner.expect(f"{say('change.done')} {say('change.agree')}")
+            else:
+                check_unproved(owner, "change.unnoted")
             owner.lacks("[ok]")
             owner.finish(say("screen.end"))
             check_changed(owner, old, new, "1of1", 1)
@@ -70,11 +74,18 @@ def check_unnoted():
         change(owner, "1of1", "1")
         owner.passphrase(PASSPHRASE, "")
         owner.wait(say("screen.end"))
-        owner.expect(say("change.repaired"))
-        owner.expect(say("change.done.unproved"))
+        check_unproved(owner, "change.repaired")
         # Nothing shows that the new papers are right, so this isn't said at the end either.
         owner.type("\x03")
         owner.end(130, "ended.changed")
+
+
+def check_unproved(owner, key):
+    """Checks that the end says first, as what is wrong, that nothing was compared, and doesn't say that old and new papers agree."""
+    owner.expect(f"{say('change.done.unproved')} [!] {say(key)}")
+    owner.expect(say("change.old.unproved"))
+    for text in ("change.agree", "change.same", "change.old", "change.old.renewed"):
+        owner.lacks(say(text), "old and new papers are said to agree, though nothing was compared")
 
 
 def check_refused():

@@ -33,6 +33,12 @@ def agree(screen: Screen, old: Desk, new: Desk) -> Optional[Verdict]:
             return None
 
 
+def is_proved(old: Desk, noted: str) -> bool:
+    """Whether new papers that give what the old ones give are shown to be right: without the noted fingerprint, nothing shows that a passphrase
+    or a found word was right."""
+    return bool(noted) or (old.papers[0].is_extendable and not any(it.is_repaired for it in old.papers))
+
+
 def _drilled(screen: Screen, old: Desk, new: Desk, noted: str) -> Verdict:
     """Drills the old papers, and then the new ones with the fingerprint that these gave. Returns what is wrong, or else that all agree."""
     screen.tell(say("change.old.title"), "strong")
@@ -44,8 +50,10 @@ def _drilled(screen: Screen, old: Desk, new: Desk, noted: str) -> Verdict:
     new.set_passphrase(bytearray(old.passphrase))
     screen.tell(say("change.new.title"), "strong")
     second = run_drill(screen, new, first.fingerprint, is_own=not noted, is_new=True)
-    if second.result == "good":
-        second.sentences = [" ".join([*second.sentences, say("change.same")])] if noted else [say("change.agree")]
+    if second.result == "good" and noted:
+        second.sentences = [" ".join([*second.sentences, say("change.same")])]
+    elif second.result == "good" and is_proved(old, noted):
+        second.sentences = [say("change.agree")]
     elif second.is_other:
         second.sentences = [say("change.other")]
     elif second.result in ("some", "several"):

@@ -4,7 +4,7 @@ from __future__ import annotations
 from typing import List, Optional, Tuple, Union
 
 import shamir
-from shamir.papers.agree import agree
+from shamir.papers.agree import agree, is_proved
 from shamir.papers.check import ask_next
 from shamir.papers.collect import ask_for_more, collect
 from shamir.papers.desk import Desk, Paper
@@ -95,6 +95,8 @@ def _recovered(screen: Screen, desk: Desk) -> Union[bytearray, str]:
         screen.clear(say("change.passphrase"))
         screen.tell(say("change.passphrase.why"))
         noted = ask_passphrase(screen, desk)
+        if not noted and not desk.passphrase and not screen.agree(say("new.passphrase.none"), is_hidden=True):
+            continue
         found = recovered(screen, desk)
         if isinstance(found, bytearray):
             fingerprint = shamir.fingerprint(found)
@@ -133,16 +135,17 @@ def _from_secret(screen: Screen, desk: Desk, secret: bytearray) -> Made:
 def _tell_done(screen: Screen, desk: Desk, plan: Plan, verdict: Verdict) -> None:
     """Says that the plan is changed, what the drill showed, and what to do with the old papers."""
     is_extendable, is_repaired = desk.papers[0].is_extendable, any(it.is_repaired for it in desk.papers)
+    is_unproved = not is_proved(desk, "" if verdict.is_own else verdict.fingerprint)
     desk.clear()
-    # Without the noted fingerprint, nothing shows that a passphrase or a found word was right.
-    is_unproved = verdict.is_own and (is_repaired or not is_extendable)
     screen.clear(say("change.done.unproved" if is_unproved else "change.done"))
+    if is_unproved:
+        screen.tell(say("change.repaired" if is_repaired else "change.unnoted"), "bad")
     tell_verdict(screen, verdict, "" if verdict.is_own else "good")
     screen.tell(say("quorum.what"))
     if is_unproved:
-        screen.tell(say("change.repaired" if is_repaired else "change.unnoted"), "strong")
+        screen.tell(say("change.noted.first"))
     screen.tell(say("change.restore"), "strong")
     screen.tell(f"{noted_plan(plan)} {say('make.keep' if len(plan.names) > 1 else 'make.keep.one')}")
-    screen.tell(say("change.old" if is_extendable else "change.old.renewed"))
+    screen.tell(say("change.old.unproved" if is_unproved else "change.old" if is_extendable else "change.old.renewed"))
     screen.tell(f"{say('change.mixed')} {say('change.thief')}")
     screen.choose(say("screen.end"), {"e": None})
