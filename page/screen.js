@@ -147,7 +147,8 @@ export function ask(title, children, answers, after = []) {
       ),
     );
     const back = buttons.find((it) => it.className === BACK) ?? null;
-    show(title, back, ...children, fault, element("div", { class: "buttons" }, ...buttons.filter((it) => it !== back)), ...after);
+    const go = element("div", { class: "go" }, fault, element("div", { class: "buttons" }, ...buttons.filter((it) => it !== back)));
+    show(title, back, ...children, go, ...after);
     goOnByEnter(buttons.find((it) => it.classList.contains("primary")));
     // What is missing ends with the next change of a field.
     main.oninput = () => (fault.textContent = "");

@@ -82,6 +82,12 @@ class Browser:
         # The focus of the first tab is in the bar of addresses, and that of a new one in the page.
         self.tab = self.session.call("browsingContext.create", type="tab")["context"]
 
+    def force_colours(self):
+        """Gives Chromium's tab forced colours, which no option of its start does."""
+        inner = self.session.call("goog:cdp.getSession", context=self.tab)["session"]
+        given = {"features": [{"name": "forced-colors", "value": "active"}]}
+        self.session.call("goog:cdp.sendCommand", method="Emulation.setEmulatedMedia", params=given, session=inner)
+
     def kill(self):
         end(self.process)
         self.session.socket.close()
@@ -185,10 +191,10 @@ def told(file, pattern):
     return int(found[1])
 
 
-def start_chromium(profile, is_dark):
+def start_chromium(profile, mode):
     driver = started(["chromedriver", "--port=0"], profile.parent)
     arguments = ["--headless=new", "--no-sandbox", "--disable-gpu", "--disable-dev-shm-usage", f"--user-data-dir={profile}", "--window-size=1200,900", "--no-first-run"]
-    arguments += ["--force-dark-mode", "--blink-settings=preferredColorScheme=0"] if is_dark else ["--blink-settings=preferredColorScheme=1"]
+    arguments += ["--force-dark-mode", "--blink-settings=preferredColorScheme=0"] if mode == "dark" else ["--blink-settings=preferredColorScheme=1"]
     options = {"binary": shutil.which("chromium"), "args": arguments}
     asked = {"capabilities": {"alwaysMatch": {"browserName": "chrome", "webSocketUrl": True, "goog:chromeOptions": options}}}
 
@@ -201,8 +207,10 @@ def start_chromium(profile, is_dark):
     return driver, lambda: Session(connected(session))
 
 
-def start_firefox(profile, is_dark):
-    preferences = {**FIREFOX_PREFERENCES, "layout.css.prefers-color-scheme.content-override": 0 if is_dark else 1}
+def start_firefox(profile, mode):
+    preferences = {**FIREFOX_PREFERENCES, "layout.css.prefers-color-scheme.content-override": 0 if mode == "dark" else 1}
+    if mode == "forced":
+        preferences |= {"browser.display.document_color_use": 2, "ui.useAccessibilityTheme": 1}
     lines = [f'user_pref("{name}", {json.dumps(value)});\n' for name, value in preferences.items()]
     (profile / "user.js").write_text("".join(lines))
     firefox = started(["firefox", "--headless", "--no-remote", "--profile", str(profile), "--remote-debugging-port", "0"], profile.parent)
@@ -219,14 +227,17 @@ def start_firefox(profile, is_dark):
 
 
 @contextlib.contextmanager
-def browser(name, is_dark=False):
-    """Starts a browser with a fresh profile, and ends it. The profile is removed."""
+def browser(name, mode="light"):
+    """Starts a browser with a fresh profile, in light, dark or forced colours, and ends it. The profile is removed."""
     with tempfile.TemporaryDirectory(prefix="shamir-page-", ignore_cleanup_errors=True) as folder:
         profile = pathlib.Path(folder) / "profile"
         profile.mkdir()
         start = {"chromium": start_chromium, "firefox": start_firefox}[name]
-        process, session = start(profile, is_dark)
+        process, session = start(profile, mode)
         try:
-            yield Browser(name, process, session(), profile)
+            made = Browser(name, process, session(), profile)
+            if mode == "forced" and name == "chromium":
+                made.force_colours()
+            yield made
         finally:
             end(process)

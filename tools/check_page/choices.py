@@ -29,7 +29,7 @@ GREEN = """
 """
 # Returns what says something and shows no sign.
 UNSIGNED = """
-[...document.querySelectorAll('.note, .good, .bad, .answer, .word.wrong, .word.doubt')].filter((it) => it.checkVisibility())
+[...document.querySelectorAll('.note, .good, .bad, .answer, .fault, .word.wrong, .word.doubt')].filter((it) => it.checkVisibility())
   .filter((it) => ['none', 'normal', ''].includes(getComputedStyle(it, it.matches('.word') ? '::after' : '::before').content))
   .map((it) => it.className).join(' | ')
 """

@@ -47,7 +47,17 @@ def of_page(check):
     return checked
 
 
-def unseen(_):
+def looked(mode):
+    """Makes a check of how the page looks in one mode."""
+
+    def checked(folder, url):
+        with browser("chromium", mode) as it:
+            looks.check_mode(Page(it, url), mode, unseen)
+
+    return checked
+
+
+def unseen(*_):
     pass
 
 
@@ -130,7 +140,7 @@ FAULTS = [
     ("a new backup needs no noted fingerprint", "page/note_and_drill.js", "mayLack: isOwn", "mayLack: true", of_page(lambda page: tasks.check_make(page, unseen))),
     ("what wasn't compared is green", "page/drill.js", 'isEqual ? "good" : "note"', '"good"', of_page(lambda page: choices.check_looks_of_results(page, unseen))),
     ("a word of the list is green", "page/style.css", ".word.right input { border-color: var(--text);", ".word.right input { border-color: var(--good);", of_page(lambda page: choices.check_looks_of_results(page, unseen))),
-    ("nothing but its colour tells a danger", "page/style.css", '.bad::before, .answer.fault::before { content: "!"; content: "!" / "";', ".bad::before, .answer.fault::before { content: none;", of_page(lambda page: choices.check_dangers(page, unseen))),
+    ("nothing but its colour tells a danger", "page/style.css", '.bad::before, .fault::before { content: "!"; content: "!" / "";', ".bad::before, .fault::before { content: none;", of_page(lambda page: choices.check_dangers(page, unseen))),
     ("typing back offers to read a damaged paper", "page/show_paper.js", 'saidError(error, "back")', "saidError(error)", of_page(lambda page: tasks.check_make(page, unseen))),
     ("a heading is read as words", "page/spelling.js", 'replace(HEADING, " ")', "trim()", of_page(lambda page: refusals.check_words(page, unseen))),
     ("papers that no quorum has aren't told in the title", "page/result.js", "isLeft || others.length > 0", "isLeft", of_page(lambda page: astray.check_untried(page, unseen))),
@@ -138,7 +148,11 @@ FAULTS = [
     ("a mistyped end goes into the next field", "page/word_field.js", "if (isEnded && !isRest && this.#isMistyped(letters)) return;", "", of_page(lambda page: entry.check_mistyped(page, unseen))),
     ("the bar of a long work stands still", "page/estimate.js", "(bar.isConnected ? move() : clearInterval(timer))", "clearInterval(timer)", of_page(lambda page: long_drill.check_stop(page, unseen))),
     ("fields run across", "page/style.css", "grid-auto-flow: column; ", "", of_page(lambda page: choices.check_phone(page, unseen))),
-    ("a paper is longer than a phone", "page/style.css", ".paper { columns: 2;", ".paper { columns: 1;", of_page(lambda page: choices.check_phone(page, unseen))),
+    ("a paper is longer than a phone", "page/style.css", "columns: 2 7.4em;", "columns: 1;", of_page(lambda page: choices.check_phone(page, unseen))),
+    ("words to be written down run into each other", "page/style.css", "columns: 2 7.4em;", "columns: 2;", looked("light")),
+    ("the fields of words stay beside each other where they have no room", "page/style.css", "  .words { grid-auto-flow: row;", "  .none { grid-auto-flow: row;", looked("light")),
+    ("in forced colours, no choice looks chosen", "page/style.css", '  .choice button[aria-checked="true"] { border: 3px solid Highlight; }\n  .choice button[aria-checked="true"]::before', '  .choice button[aria-checked="none"]::before', looked("forced")),
+    ("the way on is below the first screen", "page/style.css", ".go { position: sticky;", ".go { position: static;", looked("light")),
     ("what is said of a wrong word covers a field", "page/style.css", "scroll-margin-top: var(--said);", "", of_page(lambda page: choices.check_low(page, unseen))),
     ("a question mark is taken for the end of a word", "page/spelling.js", ' || letters.includes("?")', "", of_page(lambda page: entry.check_open(page, unseen))),
     ("the rest of a word comes into the next screen", "page/show_paper.js", "isTaken: !isSame,", "isTaken: true,", of_page(lambda page: entry.check_next_screen(page, unseen))),
@@ -228,7 +242,7 @@ FAULTS = [
     ("words that were denied stay", "page/read_damaged.js", '      this.#changed();\n      this.#entry.say(say("damaged.no.then")', '      this.#entry.say(say("damaged.no.then")', of_page(lambda page: entry.check_damaged(page, unseen))),
     ("the wallet's number of words doesn't count", "page/make_backup.js", "this.#bytes = BYTES[words];", "this.#bytes = 16;", of_page(lambda page: choices.check_wallet(page, unseen))),
     ("what a paper is stands out of sight", "page/tell_paper.js", "this.#entry.below.append(this.#found);", "this.#entry.element.append(this.#found);", of_page(lambda page: choices.check_what(page, unseen))),
-    ("a screen scrolls a little", "page/style.css", "main { padding-bottom: 1.5rem; }", "main { padding-bottom: 4rem; }", of_page(lambda page: choices.check_phone(page, unseen))),
+    ("a screen scrolls a little", "page/style.css", "main { padding-bottom: 1.5rem;", "main { padding-bottom: 4rem;", of_page(lambda page: choices.check_phone(page, unseen))),
     ("the button of a paper wraps", "page/style.css", ".rows li { display: flex;", ".rows li { display: flex; flex-wrap: wrap; ", of_page(lambda page: choices.check_phone(page, unseen))),
     ("what was said of another paper stays beside a phrase of BIP-39", "page/tell_paper.js", "    this.#entry.onMissing = () => this.#found.replaceChildren();\n", "", of_page(lambda page: choices.check_what(page, unseen))),
     ("a number in letters", "page/texts.js", "3 papers are at home", "Three papers are at home", lambda folder, url: sources.check(folder / "page")),
