@@ -1,8 +1,10 @@
 -- Words that are taken name a subcommand.
-use Rattle.std.proofs.Common.{ap, ◌≡◌, ◌||◌, Bool, cond, true, false, not, inl, inr, refl, sym, List, [], ◌∷◌, Option, Some, None, is_some, true≢false}
+use Rattle.std.proofs.Common.{ap, filter, subst, ◌∙◌, ◌≡◌, ◌||◌, Bool, cond, true, false, not, inl, inr, refl, sym, List, [], ◌∷◌, Option, Some, None, is_some, true≢false}
 use Rattle.std.specs.Prelude.{find, option_map}
 use Rattle.std.specs.List.{list_all, list_any}
 use Rattle.std.specs.Option.{option_map_or}
+use Rattle.std.specs.Str.{bytes_eq}
+use Rattle.std.proofs.lemmas.Slice.Eq.{bytes_eq-Decides}
 use Rattle.clap.specs.Facts.{explicit_source}
 use Rattle.clap.specs.Walk.{Row, Text, answers_to, finished, nothing_held, rows_after, walk, walk_from}
 use Rattle.clap.specs.Simple.{App, Shape, argument_words, built, entered, is_simple, label_of, names_of, rows_at, subcommand_of}
@@ -68,3 +70,38 @@ pub enters_some : (subs : List Shape) (found : Option (Text × List Row)) → En
 enters_some [] found enters = absurd enters
 enters_some (s ∷ rest) found (inl here) = ap is_some here.1
 enters_some (s ∷ rest) found (inr later) = enters_some rest found later
+
+-- ---- a name picks its command
+
+same_entered : (f g : Text × List Row) → Some f ≡ Some g → (f.0 ≡ g.0) × (f.1 ≡ g.1)
+same_entered f g same = (cc, cc)
+
+-- the commands of a name
+abbrev pub named : Text → List Shape → List Shape
+named name = filter (λ s. bytes_eq s.name name)
+
+none_entered : (subs : List Shape) (name : Text) (rows : List Row) → named name subs ≡ [] → EntersOne subs (Some (name, rows)) → ⊥
+none_entered [] name rows none enters = enters
+none_entered (s ∷ rest) name rows none enters = go (bytes_eq s.name name) refl none (none_entered rest name rows) enters
+  where
+    go : (b : Bool) → bytes_eq s.name name ≡ b → cond b (s ∷ named name rest) (named name rest) ≡ []
+        → (named name rest ≡ [] → EntersOne rest (Some (name, rows)) → ⊥) → EntersOne (s ∷ rest) (Some (name, rows)) → ⊥
+    go true is none later enters = cc
+    go false is none later (inl here) = true≢false (sym ((bytes_eq-Decides s.name name).1 (sym (same_entered _ _ here.1).0)) ∙ is)
+    go false is none later (inr there) = later none there
+
+-- what is found for the only command of a name fills that command's arguments
+pub entered_fills : (subs : List Shape) (name : Text) (rows : List Row) (s : Shape) → named name subs ≡ s ∷ [] → EntersOne subs (Some (name, rows))
+    → IsFilled s.rules rows
+entered_fills [] name rows s only enters = absurd enters
+entered_fills (x ∷ rest) name rows s only enters = go (bytes_eq x.name name) refl only (entered_fills rest name rows s) enters
+  where
+    go : (b : Bool) → bytes_eq x.name name ≡ b → cond b (x ∷ named name rest) (named name rest) ≡ s ∷ []
+        → (named name rest ≡ s ∷ [] → EntersOne rest (Some (name, rows)) → IsFilled s.rules rows) → EntersOne (x ∷ rest) (Some (name, rows))
+        → IsFilled s.rules rows
+    go true is only later (inl here) =
+        let same : x ≡ s = cc in
+        subst (λ (y : Shape). IsFilled y.rules rows) same (subst (IsFilled x.rules) (sym (same_entered _ _ here.1).1) here.2)
+    go true is only later (inr there) = let none : named name rest ≡ [] = cc in absurd (none_entered rest name rows none there)
+    go false is only later (inl here) = absurd (true≢false (sym ((bytes_eq-Decides x.name name).1 (sym (same_entered _ _ here.1).0)) ∙ is))
+    go false is only later (inr there) = later only there

@@ -46,7 +46,7 @@ is_empty-is (x ∷ xs) = ne_eqb _ _ (λ e. omega arith)
 -- ---- rows
 
 -- a row with a new id goes to the end
-absent_at : (id : Text) (change : Row → List Row) (missing rows : List Row) → has_row id rows ≡ false → at_row id change missing rows ≡ rows ++ missing
+pub absent_at : (id : Text) (change : Row → List Row) (missing rows : List Row) → has_row id rows ≡ false → at_row id change missing rows ≡ rows ++ missing
 absent_at id change missing [] none = refl
 absent_at id change missing (r ∷ rest) none = go (bytes_eq r.id id) none (absent_at id change missing rest)
   where
@@ -59,7 +59,7 @@ all_fit_push : (c : List Rule) (rows : List Row) (r : Row) → AllFit c rows →
 all_fit_push c [] r all fits = (fits, tt)
 all_fit_push c (x ∷ rest) r all fits = (all.0, all_fit_push c rest r all.1 fits)
 
-has_row-push : (id : Text) (rows more : List Row) → has_row id rows ≡ true → has_row id (rows ++ more) ≡ true
+pub has_row-push : (id : Text) (rows more : List Row) → has_row id rows ≡ true → has_row id (rows ++ more) ≡ true
 has_row-push id [] more has = absurd (true≢false (sym has))
 has_row-push id (r ∷ rest) more has = go (bytes_eq r.id id) has (has_row-push id rest more)
   where
@@ -67,7 +67,7 @@ has_row-push id (r ∷ rest) more has = go (bytes_eq r.id id) has (has_row-push 
     go true has later = refl
     go false has later = later has
 
-has_row-last : (id : Text) (rows : List Row) (r : Row) → bytes_eq r.id id ≡ true → has_row id (rows ++ r ∷ []) ≡ true
+pub has_row-last : (id : Text) (rows : List Row) (r : Row) → bytes_eq r.id id ≡ true → has_row id (rows ++ r ∷ []) ≡ true
 has_row-last id [] r same = ap (λ b. b || false) same
 has_row-last id (x ∷ rest) r same = go (bytes_eq x.id id) (has_row-last id rest r same)
   where

@@ -1,4 +1,5 @@
 pub mod Agreement
+pub mod Arguments
 pub mod Commands
 pub mod Entered
 pub mod Filled

@@ -9,8 +9,7 @@ use Rattle.s39_command.specs.declared.command.Job.{Job}
 use Rattle.s39_command.specs.declared.command.Job.TheVariants as job
 use Rattle.s39_command.specs.declared.command.Texts.{Texts}
 use Rattle.s39_command.specs.Command.{AreSameCalls, AreSameTexts, GivesBadValues, GivesCall, shamir_app, text_in}
-use Rattle.s39_command.specs.FewerWords.{or_empty}
-use Rattle.s39_command.specs.Jobs.{GivesJob}
+use Rattle.s39_command.specs.Jobs.{GivesJob, or_empty}
 use Rattle.s39_command.proofs.Faults.{one_fault}
 use Rattle.s39_command.proofs.OneCall.{one_call}
 use Rattle.s39_cli.specs.declared.runner.Ended.{Ended}

@@ -11,7 +11,7 @@ use Rattle.s39_command.specs.declared.command.Job.{Job}
 use Rattle.s39_command.specs.declared.command.Job.TheVariants as job
 use Rattle.s39_command.specs.declared.command.Texts.{Texts}
 use Rattle.s39_command.specs.Command.{AsksForText, AreSameCalls, AreSameTexts, HaveSameValues, shamir_app, text_in}
-use Rattle.s39_command.specs.FewerWords.{or_empty}
+use Rattle.s39_command.specs.Jobs.{or_empty}
 use Rattle.s39_command.proofs.Faults.{one_fault}
 use Rattle.s39_command.proofs.OneCall.{one_call, said_same}
 use Rattle.s39_cli.specs.declared.runner.Source.{Source}

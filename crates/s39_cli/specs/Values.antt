@@ -6,7 +6,7 @@ use Rattle.std.specs.Io.KnownBytes.{Consumes, IsAtEnd, Keeps}
 use Rattle.clap.specs.Words.{Text}
 use Rattle.s39_backup.specs.Created.{most_random}
 use Rattle.s39_command.specs.Command.{text_in}
-use Rattle.s39_command.specs.FewerWords.{or_empty}
+use Rattle.s39_command.specs.Jobs.{or_empty}
 use Rattle.s39_command.specs.declared.command.Texts.{Texts}
 use Rattle.s39_cli.specs.declared.values.Until.{Until}
 use Rattle.s39_cli.specs.declared.values.Until.TheVariants.{End, LineEnd}

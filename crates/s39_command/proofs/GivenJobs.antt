@@ -1,265 +1,249 @@
--- The words of each command give its job.
-use Rattle.std.proofs.Common.{◌≡◌, ◌∙◌, Bor, true, false, List, [], ◌∷◌, codes, IfSome, Option, Some, None, ap, option_map, refl, sym, unwrap_or}
+-- The words of a command give the call that is asked for.
+use Rattle.std.proofs.Common.{◌≡◌, ◌∙◌, List, codes, Option, Some, None, ap, option_map, refl, subst, sym, unwrap_or}
+use Rattle.std.specs.Prelude.{option_and_then, slice_get}
+use Rattle.std.specs.Option.{option_or}
 use Rattle.std.specs.Str.Parse.{digits_value, without_leading_plus}
-use Rattle.clap.specs.Takes.{walk_passes}
-use Rattle.clap.specs.Walk.{walked}
-use Rattle.clap.specs.Words.{Row, Text, first_of, subcommand_of, takes}
+use Rattle.clap.specs.Walk.{row_text}
+use Rattle.clap.specs.Words.{Row, Shape, Text, first_of, one_of}
+use Rattle.s39_clap.specs.Arguments.{Given, given_for}
+use Rattle.s39_clap.specs.Found.{HasNumber}
+use Rattle.s39_clap.proofs.Arguments.{default_row, row_at}
 use Rattle.s39_kdf.specs.declared.secret_form.SecretForm.{SecretForm}
-use Rattle.s39_kdf.specs.declared.secret_form.SecretForm.TheVariants.{Digits, Fingerprint}
+use Rattle.s39_kdf.specs.declared.secret_form.SecretForm.TheVariants.{Digits, Fingerprint, Expected}
 use Rattle.s39_command.specs.declared.command.BadValues.{BadValues}
 use Rattle.s39_command.specs.declared.command.BadValues.TheVariants.{NoSecret, TwoSecrets, TwoPassphrases, TwoForms, RandomInput}
 use Rattle.s39_command.specs.declared.command.Job.{Job}
 use Rattle.s39_command.specs.declared.command.Job.TheVariants as job
-use Rattle.s39_command.specs.Command.{Gives, HasBadValues, IsGiven, flag_text, shamir_app, text_in}
-use Rattle.s39_command.specs.FewerWords.{or_default}
-use Rattle.s39_command.specs.Jobs.{ExpectingDrillWordsGive, ExpectingRecoverWordsGive, FewCreateWordsGive, FewDrillWordsGive, FewRecoverWordsGive}
-use Rattle.s39_command.specs.Jobs.{GivesJobWith, ReissueWordsGive, ResplitWordsGive, exponent_of, flag_last, plan_first}
-use Rattle.s39_command.specs.Words.{AskFor, limit_of}
-use Rattle.s39_command.proofs.CreateWords.{create_values, creation_met}
-use Rattle.s39_command.proofs.DrillWords.{IsDrill, drill_met, drill_values, expecting_is_drill, few_is_drill}
+use Rattle.s39_command.specs.Command.{Gives, HasBadValues, HasTwoForms, HasTwoPassphrases, HasTwoSecrets, IsFormSaid, IsGiven, LacksSecret, shamir_app, text_at}
+use Rattle.s39_command.specs.Jobs.{AsksFor, IsAskedIn, WordsGive, WordsGiveFaults, text_or}
+use Rattle.s39_command.specs.Words.{AreWords, command_of, number_in}
+use Rattle.s39_command.proofs.Jobs.{shape_at}
 use Rattle.s39_command.proofs.OneCall.{other_text, said_same}
-use Rattle.s39_command.proofs.RecoverWords.{IsRecovery, expecting_is_recovery, few_is_recovery, recover_values, recovery_met}
-use Rattle.s39_command.proofs.ReissueWords.{reissue_met, reissue_values}
-use Rattle.s39_command.proofs.ResplitWords.{resplit_met, resplit_values}
-use Rattle.s39_command.proofs.Words.{Found, IsMet, form_said, found_in, is_fingerprint}
+use Rattle.s39_command.proofs.Words.{read, read_is, text_is}
 
--- ---- texts that are lent
+module _ (name : Text) (given : List Given) (words : List Text) (are : AreWords name given words) where
+  abbrev found : List Row
+  found = (read name given words are).rows
 
-abbrev pub lent : Text → Bor Text
-lent text = record { ref_ptr = (0, 0); now = text }
+  -- an argument without a default
+  abbrev TextIs : Text → Type 0
+  TextIs id = first_of id found ≡ given_for given id
 
-abbrev lent_if : Option Text → Option (Bor Text)
-lent_if text = option_map lent text
+  secret : TextIs (codes "master-secret")
+  unfolding shamir_app
+  secret = text_is name given words are (codes "master-secret") refl
 
-lent_is : (text : Option Text) → text_in (lent_if text) ≡ text
-lent_is None = refl
-lent_is (Some text) = refl
+  secret_file : TextIs (codes "master-secret-file")
+  unfolding shamir_app
+  secret_file = text_is name given words are (codes "master-secret-file") refl
 
--- ---- values without a fault, and none of them in a file
+  passphrase : TextIs (codes "passphrase")
+  unfolding shamir_app
+  passphrase = text_is name given words are (codes "passphrase") refl
 
-record IsPlain (f : Found) : Type 0 where
-  pub no_secret_file : f.secret_file ≡ None
-  pub no_passphrase_file : f.passphrase_file ≡ None
-  pub no_lack : f.name ≡ codes "create" → f.secret ≡ None → ⊥
-  pub one_form : f.name ≡ codes "drill" → (text : Text) → f.expected ≡ Some text → f.flag ≡ Some (flag_text true) → ⊥
-  pub no_input : f.name ≡ codes "resplit" → f.random_file ≡ Some (codes "-") → ⊥
+  passphrase_file : TextIs (codes "passphrase-file")
+  unfolding shamir_app
+  passphrase_file = text_is name given words are (codes "passphrase-file") refl
 
-none_given : (id : Text) (rows : List Row) → first_of id rows ≡ None → IsGiven id rows → ⊥
-none_given id rows none given = cc
+  expect : TextIs (codes "expect")
+  unfolding shamir_app
+  expect = text_is name given words are (codes "expect") refl
 
-no_fault : (name : Text) (rows : List Row) (f : Found) → found_in (name, rows) ≡ f → IsPlain f → (bad : BadValues) → HasBadValues name rows bad → ⊥
-no_fault name rows f same plain NoSecret lacks =
-    plain.no_lack (sym (ap (λ (g : Found). g.name) same) ∙ lacks.0) (sym (ap (λ (g : Found). g.secret) same) ∙ lacks.1)
-no_fault name rows f same plain TwoSecrets two =
-    none_given (codes "master-secret-file") rows (ap (λ (g : Found). g.secret_file) same ∙ plain.no_secret_file) two.1
-no_fault name rows f same plain TwoPassphrases two =
-    none_given (codes "passphrase-file") rows (ap (λ (g : Found). g.passphrase_file) same ∙ plain.no_passphrase_file) two.2.1
-no_fault name rows f same plain TwoForms two =
-    plain.one_form (sym (ap (λ (g : Found). g.name) same) ∙ two.3.0) two.3.1.0 (sym (ap (λ (g : Found). g.expected) same) ∙ two.3.1.1)
-    (sym (ap (λ (g : Found). g.flag) same) ∙ two.3.2)
-no_fault name rows f same plain RandomInput input =
-    plain.no_input (sym (ap (λ (g : Found). g.name) same) ∙ input.4.0) (sym (ap (λ (g : Found). g.random_file) same) ∙ input.4.1)
+  after : TextIs (codes "after")
+  unfolding shamir_app
+  after = text_is name given words are (codes "after") refl
 
--- what is found gives a job with the texts that are found
-gives_job : (words : List Text) (f : Found) → IsMet words f → IsPlain f → (j : Job)
-    → ((name : Text) (rows : List Row) → found_in (name, rows) ≡ f → Gives name rows j) → GivesJobWith words j f.secret f.passphrase
-gives_job words f (name, rows, met, same) plain j gives = (
-  record { secret = lent_if f.secret; passphrase = lent_if f.passphrase },
-  (
-    name,
-    rows,
-    met,
-    gives name rows same,
-    record {
-      secret_is = lent_is f.secret ∙ sym (ap (λ (g : Found). g.secret) same);
-      passphrase_is = lent_is f.passphrase ∙ sym (ap (λ (g : Found). g.passphrase) same);
-    },
-    record {
-      secret_is = sym (ap (λ (g : Found). g.secret_file) same ∙ plain.no_secret_file);
-      passphrase_is = sym (ap (λ (g : Found). g.passphrase_file) same ∙ plain.no_passphrase_file);
-    },
-    λ bad. no_fault name rows f same plain bad.0 bad.1,
-  ),
-  lent_is f.secret,
-  lent_is f.passphrase,
+  plan : TextIs (codes "plan")
+  unfolding shamir_app
+  plan = text_is name given words are (codes "plan") refl
+
+  names : TextIs (codes "names")
+  unfolding shamir_app
+  names = text_is name given words are (codes "names") refl
+
+  random_file : TextIs (codes "random-file")
+  unfolding shamir_app
+  random_file = text_is name given words are (codes "random-file") refl
+
+  -- what is found for an argument of the command at a place
+  abbrev Got : Shape → Text → Option Text → Option Row
+  Got s id o = option_or (option_map (row_at s id) o) (default_row id s.rules)
+
+  module _ (s : Shape) (command : Text) (is : name ≡ command) (named : command_of command ≡ Some s) (id : Text) where
+    one_is : one_of id found ≡ option_and_then row_text (Got s id (given_for given id))
+    one_is = ap (option_and_then row_text) (read_is name given words are s (ap command_of is ∙ named) id)
+
+    first_is : first_of id found ≡ option_and_then (λ r. slice_get r.values 0) (Got s id (given_for given id))
+    first_is = ap (option_and_then (λ (r : Row). slice_get r.values 0)) (read_is name given words are s (ap command_of is ∙ named) id)
+
+  -- the number that is found is the one that is given, or else the default
+  abbrev NumberIs : Shape → Text → Text → Option Text → Type 0
+  NumberIs s id default o = option_map (λ t. digits_value 10 (without_leading_plus t)) (option_and_then row_text (Got s id o))
+      ≡ Some (number_in (unwrap_or o default))
+
+  -- and so the text of a flag
+  abbrev FlagIs : Shape → Text → Option Text → Type 0
+  FlagIs s id o = option_and_then row_text (Got s id o) ≡ Some (unwrap_or o (codes "false"))
+
+  exponent : name ≡ codes "create" → HasNumber (codes "exponent") found (number_in (text_or given (codes "exponent") (codes "0")))
+  unfolding shamir_app
+  exponent is = ap (option_map (λ t. digits_value 10 (without_leading_plus t))) (one_is (shape_at 1) (codes "create") is refl (codes "exponent"))
+      ∙ go (given_for given (codes "exponent"))
+    where
+      go : (o : Option Text) → NumberIs (shape_at 1) (codes "exponent") (codes "0") o
+      go None = refl
+      go (Some text) = refl
+
+  limit : name ≡ codes "drill" → HasNumber (codes "limit") found (number_in (text_or given (codes "limit") (codes "1000")))
+  unfolding shamir_app
+  limit is = ap (option_map (λ t. digits_value 10 (without_leading_plus t))) (one_is (shape_at 3) (codes "drill") is refl (codes "limit"))
+      ∙ go (given_for given (codes "limit"))
+    where
+      go : (o : Option Text) → NumberIs (shape_at 3) (codes "limit") (codes "1000") o
+      go None = refl
+      go (Some text) = refl
+
+  extendable : name ≡ codes "create" → one_of (codes "extendable") found ≡ Some (text_or given (codes "extendable") (codes "false"))
+  unfolding shamir_app
+  extendable is = one_is (shape_at 1) (codes "create") is refl (codes "extendable") ∙ go (given_for given (codes "extendable"))
+    where
+      go : (o : Option Text) → FlagIs (shape_at 1) (codes "extendable") o
+      go None = refl
+      go (Some text) = refl
+
+  form_of_recovery : name ≡ codes "recover" → one_of (codes "fingerprint") found ≡ Some (text_or given (codes "fingerprint") (codes "false"))
+  unfolding shamir_app
+  form_of_recovery is = one_is (shape_at 2) (codes "recover") is refl (codes "fingerprint") ∙ go (given_for given (codes "fingerprint"))
+    where
+      go : (o : Option Text) → FlagIs (shape_at 2) (codes "fingerprint") o
+      go None = refl
+      go (Some text) = refl
+
+  form_of_drill : name ≡ codes "drill" → one_of (codes "fingerprint") found ≡ Some (text_or given (codes "fingerprint") (codes "false"))
+  unfolding shamir_app
+  form_of_drill is = one_is (shape_at 3) (codes "drill") is refl (codes "fingerprint") ∙ go (given_for given (codes "fingerprint"))
+    where
+      go : (o : Option Text) → FlagIs (shape_at 3) (codes "fingerprint") o
+      go None = refl
+      go (Some text) = refl
+
+  fingerprint : name ≡ codes "drill" → first_of (codes "fingerprint") found ≡ Some (text_or given (codes "fingerprint") (codes "false"))
+  unfolding shamir_app
+  fingerprint is = first_is (shape_at 3) (codes "drill") is refl (codes "fingerprint") ∙ go (given_for given (codes "fingerprint"))
+    where
+      go : (o : Option Text)
+          → option_and_then (λ r. slice_get r.values 0) (Got (shape_at 3) (codes "fingerprint") o) ≡ Some (unwrap_or o (codes "false"))
+      go None = refl
+      go (Some text) = refl
+
+  form_said : (form : SecretForm) → one_of (codes "fingerprint") found ≡ Some (text_or given (codes "fingerprint") (codes "false")) → IsAskedIn given form
+      → IsFormSaid found form
+  form_said Digits one asked = one ∙ ap (λ (t : Text). Some t) asked
+  form_said Fingerprint one asked = one ∙ ap (λ (t : Text). Some t) asked
+  form_said (Expected noted) one asked = absurd asked
+
+  gives : (j : Job) → AsksFor name given j → Gives name found j
+  gives job.Show asks = asks
+  gives (job.Create text e x) (is, text_given, number, said) = (
+    is,
+    plan ∙ text_given,
+    subst (HasNumber (codes "exponent") found) (sym number) (exponent is),
+    extendable is ∙ ap (λ (t : Text). Some t) said,
+  )
+  gives (job.Recover form e) (is, asked, expected) = (is, form_said form (form_of_recovery is) asked, expected ∙ sym expect)
+  gives (job.Drill a n form e) (is, start, number, asked, expected) = (
+    is,
+    start ∙ sym after,
+    subst (HasNumber (codes "limit") found) (sym number) (limit is),
+    form_said form (form_of_drill is) asked,
+    expected ∙ sym expect,
+  )
+  gives job.Status asks = asks
+  gives (job.Reissue text listed) (is, text_given, listed_given) = (is, plan ∙ text_given, names ∙ listed_given)
+  gives job.Repair asks = asks
+  gives (job.Resplit text file) (is, text_given, file_given) = (is, plan ∙ text_given, random_file ∙ file_given)
+
+  -- ---- the faults of values
+
+  to_found : (id : Text) → TextIs id → IsGiven id (given_for given) → IsGiven id (text_at found)
+  to_found id same (text, is) = (text, same ∙ is)
+
+  to_given : (id : Text) → TextIs id → IsGiven id (text_at found) → IsGiven id (given_for given)
+  to_given id same (text, is) = (text, sym same ∙ is)
+
+  lacks_found : LacksSecret name (given_for given) → LacksSecret name (text_at found)
+  lacks_found (is, none, no_file) = (is, secret ∙ none, secret_file ∙ no_file)
+
+  lacks_given : LacksSecret name (text_at found) → LacksSecret name (given_for given)
+  lacks_given (is, none, no_file) = (is, sym secret ∙ none, sym secret_file ∙ no_file)
+
+  secrets_found : HasTwoSecrets (given_for given) → HasTwoSecrets (text_at found)
+  secrets_found (one, file) = (to_found (codes "master-secret") secret one, to_found (codes "master-secret-file") secret_file file)
+
+  secrets_given : HasTwoSecrets (text_at found) → HasTwoSecrets (given_for given)
+  secrets_given (one, file) = (to_given (codes "master-secret") secret one, to_given (codes "master-secret-file") secret_file file)
+
+  passphrases_found : HasTwoPassphrases (given_for given) → HasTwoPassphrases (text_at found)
+  passphrases_found (one, file) = (to_found (codes "passphrase") passphrase one, to_found (codes "passphrase-file") passphrase_file file)
+
+  passphrases_given : HasTwoPassphrases (text_at found) → HasTwoPassphrases (given_for given)
+  passphrases_given (one, file) = (to_given (codes "passphrase") passphrase one, to_given (codes "passphrase-file") passphrase_file file)
+
+  forms_found : HasTwoForms name (given_for given) → HasTwoForms name (text_at found)
+  forms_found (is, one, said) =
+      (is, to_found (codes "expect") expect one, fingerprint is ∙ ap (λ (o : Option Text). Some (unwrap_or o (codes "false"))) said)
+
+  forms_given : HasTwoForms name (text_at found) → HasTwoForms name (given_for given)
+  forms_given (is, one, said) = (is, to_given (codes "expect") expect one, go (given_for given (codes "fingerprint")) (sym (fingerprint is) ∙ said))
+    where
+      go : (o : Option Text) → Some (unwrap_or o (codes "false")) ≡ Some (codes "true") → o ≡ Some (codes "true")
+      go None same = absurd (other_text (codes "false") (codes "true") refl (said_same same))
+      go (Some text) same = same
+
+  bad_found : (bad : BadValues) → HasBadValues name (given_for given) bad → HasBadValues name (text_at found) bad
+  bad_found NoSecret lacks = lacks_found lacks
+  bad_found TwoSecrets two = secrets_found two
+  bad_found TwoPassphrases (whole, single, two) = ((λ l. whole (lacks_given l)), (λ s. single (secrets_given s)), passphrases_found two)
+  bad_found TwoForms (whole, single, one, two) =
+      ((λ l. whole (lacks_given l)), (λ s. single (secrets_given s)), (λ p. one (passphrases_given p)), forms_found two)
+  bad_found RandomInput (whole, single, one, same, (is, input)) = (
+    (λ l. whole (lacks_given l)),
+    (λ s. single (secrets_given s)),
+    (λ p. one (passphrases_given p)),
+    (λ f. same (forms_given f)),
+    (is, random_file ∙ input),
+  )
+
+  bad_given : (bad : BadValues) → HasBadValues name (text_at found) bad → HasBadValues name (given_for given) bad
+  bad_given NoSecret lacks = lacks_given lacks
+  bad_given TwoSecrets two = secrets_given two
+  bad_given TwoPassphrases (whole, single, two) = ((λ l. whole (lacks_found l)), (λ s. single (secrets_found s)), passphrases_given two)
+  bad_given TwoForms (whole, single, one, two) =
+      ((λ l. whole (lacks_found l)), (λ s. single (secrets_found s)), (λ p. one (passphrases_found p)), forms_given two)
+  bad_given RandomInput (whole, single, one, same, (is, input)) = (
+    (λ l. whole (lacks_found l)),
+    (λ s. single (secrets_found s)),
+    (λ p. one (passphrases_found p)),
+    (λ f. same (forms_found f)),
+    (is, sym random_file ∙ input),
+  )
+
+pub words_give : WordsGive
+words_give name given words call are asks = (
+  name,
+  found name given words are,
+  (read name given words are).met,
+  gives name given words are call.job asks.job,
+  record {
+    secret_is = asks.values.secret_is ∙ sym (secret name given words are);
+    passphrase_is = asks.values.passphrase_is ∙ sym (passphrase name given words are);
+  },
+  record {
+    secret_is = asks.files.secret_is ∙ sym (secret_file name given words are);
+    passphrase_is = asks.files.passphrase_is ∙ sym (passphrase_file name given words are);
+  },
+  λ bad. asks.sound (bad.0, bad_given name given words are bad.0 bad.1),
 )
 
--- ---- a drill
-
--- no words of a drill that expect a fingerprint ask for fingerprints too
-one_form : (form : SecretForm) (e : Option Text) → IfSome e (λ text. form ≡ Digits) → (text : Text) → e ≡ Some text
-    → Some (flag_text (is_fingerprint form)) ≡ Some (flag_text true) → ⊥
-one_form form None one text given flag = let bad : ⊥ = cc in bad
-one_form form (Some e) digits text given flag =
-    other_text (codes "true") (codes "false") refl (said_same (sym flag ∙ ap (λ (f : SecretForm). Some (flag_text (is_fingerprint f))) digits))
-
-drill_gives : (form : SecretForm) (e p q n : Option Text) (words : List Text) → IsDrill form e p q n words
-    → GivesJobWith words (job.Drill (lent_if q) (limit_of (or_default n)) form (lent_if e)) None p
-drill_gives form e p q n words is = gives_job words (drill_values form e p q n) (drill_met form e p q n words is)
-    (record {
-      no_secret_file = refl;
-      no_passphrase_file = refl;
-      no_lack = λ named. absurd (other_text (codes "drill") (codes "create") refl named);
-      one_form = λ named. one_form form e is.one_form;
-      no_input = λ named. absurd (other_text (codes "drill") (codes "resplit") refl named);
-    })
-    (job.Drill (lent_if q) (limit_of (or_default n)) form (lent_if e)) (λ name rows same. (
-      ap (λ (f : Found). f.name) same,
-      lent_is q ∙ sym (ap (λ (f : Found). f.after) same),
-      ap (λ (f : Found). option_map (λ (t : Text). digits_value 10 (without_leading_plus t)) f.limit) same,
-      form_said form is.form_words rows is.form_asked (ap (λ (f : Found). f.form) same),
-      lent_is e ∙ sym (ap (λ (f : Found). f.expected) same),
-    ))
-
-pub few_drill_words_give : FewDrillWordsGive
-few_drill_words_give form p q n words are = (lent_if q, lent_is q, drill_gives form None p q n words (few_is_drill form p q n words are))
-
-pub expecting_drill_words_give : ExpectingDrillWordsGive
-expecting_drill_words_give e p q n words are =
-    (lent q, lent e, refl, refl, drill_gives Digits (Some e) (Some p) (Some q) (Some n) words (expecting_is_drill e p q n words are))
-
--- ---- a recovery
-
-recovery_found : (form : SecretForm) (e p : Option Text) (words : List Text) → IsMet words (recover_values form e p) → (form_words : List Text)
-    → AskFor form form_words → GivesJobWith words (job.Recover form (lent_if e)) None p
-recovery_found form e p words met form_words asked = gives_job words (recover_values form e p) met
-    (record {
-      no_secret_file = refl;
-      no_passphrase_file = refl;
-      no_lack = λ named. absurd (other_text (codes "recover") (codes "create") refl named);
-      one_form = λ named. absurd (other_text (codes "recover") (codes "drill") refl named);
-      no_input = λ named. absurd (other_text (codes "recover") (codes "resplit") refl named);
-    })
-    (job.Recover form (lent_if e)) (λ name rows same. (
-      ap (λ (f : Found). f.name) same,
-      form_said form form_words rows asked (ap (λ (f : Found). f.form) same),
-      lent_is e ∙ sym (ap (λ (f : Found). f.expected) same),
-    ))
-
-recovery_gives : (form : SecretForm) (e p : Option Text) (words : List Text) → IsRecovery form e p words
-    → GivesJobWith words (job.Recover form (lent_if e)) None p
-recovery_gives form e p words is = recovery_found form e p words (recovery_met form e p words is) is.form_words is.form_asked
-
-pub few_recover_words_give : FewRecoverWordsGive
-few_recover_words_give form p words are = recovery_gives form None p words (few_is_recovery form p words are)
-
-pub expecting_recover_words_give : ExpectingRecoverWordsGive
-expecting_recover_words_give form e p words are = (lent e, refl, recovery_gives form (Some e) (Some p) words (expecting_is_recovery form e p words are))
-
--- ---- a creation, a reissue and a split anew
-
-some_none : (text : Text) → Some text ≡ None → ⊥
-some_none text same = cc
-
-pub few_create_words_give : FewCreateWordsGive
-few_create_words_give plan secret p e words are = (
-  lent plan,
-  refl,
-  gives_job words (create_values plan secret p e) (creation_met plan secret p e words are)
-      (record {
-        no_secret_file = refl;
-        no_passphrase_file = refl;
-        no_lack = λ named lacks. some_none secret lacks;
-        one_form = λ named. absurd (other_text (codes "create") (codes "drill") refl named);
-        no_input = λ named. absurd (other_text (codes "create") (codes "resplit") refl named);
-      })
-      (job.Create (lent plan) (exponent_of (unwrap_or e (codes "0"))) false) (λ name rows same. (
-        ap (λ (f : Found). f.name) same,
-        ap (λ (f : Found). f.plan) same,
-        ap (λ (f : Found). option_map (λ (t : Text). digits_value 10 (without_leading_plus t)) f.exponent) same,
-        ap (λ (f : Found). f.extendable) same,
-      )),
-)
-
-pub reissue_words_give : ReissueWordsGive
-reissue_words_give plan names words are = (
-  lent plan,
-  lent names,
-  refl,
-  refl,
-  gives_job words (reissue_values plan names) (reissue_met plan names words are)
-      (record {
-        no_secret_file = refl;
-        no_passphrase_file = refl;
-        no_lack = λ named. absurd (other_text (codes "reissue") (codes "create") refl named);
-        one_form = λ named. absurd (other_text (codes "reissue") (codes "drill") refl named);
-        no_input = λ named. absurd (other_text (codes "reissue") (codes "resplit") refl named);
-      })
-      (job.Reissue (lent plan) (lent names)) (λ name rows same. (
-        ap (λ (f : Found). f.name) same,
-        ap (λ (f : Found). f.plan) same,
-        ap (λ (f : Found). f.names) same,
-      )),
-)
-
-pub resplit_words_give : ResplitWordsGive
-resplit_words_give plan file words are other = (
-  lent plan,
-  lent file,
-  refl,
-  refl,
-  gives_job words (resplit_values plan file) (resplit_met plan file words are)
-      (record {
-        no_secret_file = refl;
-        no_passphrase_file = refl;
-        no_lack = λ named. absurd (other_text (codes "resplit") (codes "create") refl named);
-        one_form = λ named. absurd (other_text (codes "resplit") (codes "drill") refl named);
-        no_input = λ named is. other (said_same is);
-      })
-      (job.Resplit (lent plan) (lent file)) (λ name rows same. (
-        ap (λ (f : Found). f.name) same,
-        ap (λ (f : Found). f.plan) same,
-        ap (λ (f : Found). f.random_file) same,
-      )),
-)
-
--- ---- words in another order
-
-some_same : {A : Type 0} {x y : A} → Some x ≡ Some y → x ≡ y
-some_same same = cc
-
-met_if : (words : List Text) (f : Found) (o : Option (Text × List Row)) → subcommand_of shamir_app words ≡ o → option_map found_in o ≡ Some f
-    → IsMet words f
-met_if words f None met found = let bad : ⊥ = cc in absurd bad
-met_if words f (Some (name, rows)) met found = (name, rows, met, some_same found)
-
--- what is found in those of a creation
-plan_first_values : Found
-plan_first_values = record (create_values (codes "2of3") (codes "00112233445566778899aabbccddeeff") None None) { extendable = Some (flag_text true) }
-
-plan_first_met : IsMet plan_first plan_first_values
-unfolding shamir_app walked plan_first_values
-plan_first_met = met_if plan_first plan_first_values (subcommand_of shamir_app plan_first) refl refl
-
-pub plan_first_taken : takes shamir_app plan_first ≡ true
-unfolding shamir_app walked walk_passes
-plan_first_taken = refl
-
-pub plan_first_gives : GivesJobWith plan_first (job.Create (lent (codes "2of3")) 0 true) (Some (codes "00112233445566778899aabbccddeeff")) None
-unfolding plan_first_values
-plan_first_gives = gives_job plan_first plan_first_values plan_first_met
-    (record {
-      no_secret_file = refl;
-      no_passphrase_file = refl;
-      no_lack = λ named lacks. some_none (codes "00112233445566778899aabbccddeeff") lacks;
-      one_form = λ named. absurd (other_text (codes "create") (codes "drill") refl named);
-      no_input = λ named. absurd (other_text (codes "create") (codes "resplit") refl named);
-    })
-    (job.Create (lent (codes "2of3")) 0 true) (λ name rows same. (
-      ap (λ (f : Found). f.name) same,
-      ap (λ (f : Found). f.plan) same,
-      ap (λ (f : Found). option_map (λ (t : Text). digits_value 10 (without_leading_plus t)) f.exponent) same,
-      ap (λ (f : Found). f.extendable) same,
-    ))
-
--- and in those of a recovery
-flag_last_met : IsMet flag_last (recover_values Fingerprint None (Some (codes "TREZOR")))
-unfolding shamir_app walked
-flag_last_met = met_if flag_last (recover_values Fingerprint None (Some (codes "TREZOR"))) (subcommand_of shamir_app flag_last) refl refl
-
-pub flag_last_taken : takes shamir_app flag_last ≡ true
-unfolding shamir_app walked walk_passes
-flag_last_taken = refl
-
-pub flag_last_gives : GivesJobWith flag_last (job.Recover Fingerprint None) None (Some (codes "TREZOR"))
-flag_last_gives = recovery_found Fingerprint None (Some (codes "TREZOR")) flag_last flag_last_met (codes "--fingerprint" ∷ []) refl
+pub words_give_faults : WordsGiveFaults
+words_give_faults name given words bad are has = (name, found name given words are, (read name given words are).met, bad_found name given words are bad has)

@@ -1,16 +1,16 @@
 -- What the words of a command line give.
-use Rattle.std.proofs.Common.{◌≡◌, ◌⊎◌, ◌∙◌, ◌<◌, ◌≤◌, ⊎_elim, ℕ, arith, codes, Bool, inl, inr, refl, sym, ap, subst, true, false, true≢false, List}
-use Rattle.std.proofs.Common.{[], ◌∷◌, Option, Some, None, is_some, length, Bor, Global}
+use Rattle.std.proofs.Common.{◌≡◌, ◌⊎◌, ◌∙◌, ◌<◌, ◌≤◌, ◌^◌, ◌||◌, ⊎_elim, ℕ, arith, codes, Bool, inl, inr, refl, sym, ap, subst, true, false, true≢false, List}
+use Rattle.std.proofs.Common.{[], ◌∷◌, Option, Some, None, is_some, length, pos, unwrap_or, Bor, Global}
 use Rattle.std.specs.Prelude.{Box, option_map, slice_get}
-use Rattle.std.specs.Option.{option_map_or}
 use Rattle.std.specs.Str.Parse.{ParsesUnsigned, ExplainsUnsignedError, HasUnsignedDigitsIfOk}
 use Rattle.std.specs.Str.{bytes_eq}
 use Rattle.std.proofs.lemmas.Slice.Eq.{bytes_eq-Decides}
 use Rattle.clap.specs.Simple.{filled, with_index}
 use Rattle.std.specs.Box.{box_value}
-use Rattle.clap.specs.Words.{App, HasMatchesOf, IsAmong, Kinds, ReadsOne, Row, Rule, Text, fault_of, first_of, first_value, has_subcommand, one_of}
+use Rattle.clap.specs.Words.{App, HasMatchesOf, IsAmong, Kinds, ReadsOne, Row, Rule, Shape, Text, fault_of, first_of, first_value, has_subcommand, one_of}
 use Rattle.clap.specs.Words.{one_text, rows_of, is_simple, is_simple_and_free, subcommand_name_of, subcommand_of, subcommand_rows, subcommand_rows_of}
 use Rattle.clap.specs.Words.{takes}
+use Rattle.clap.specs.declared.builder.value_parser.ValueParser.TheVariants as vp
 use Rattle.clap.specs.declared.error.kind.ErrorKind.{ErrorKind}
 use Rattle.clap.specs.declared.error.kind.ErrorKind.TheVariants.{DisplayHelp, DisplayVersion, OutOfMemory}
 use Rattle.clap.specs.declared.parser.matches.ArgMatches.{ArgMatches}
@@ -20,14 +20,14 @@ use Rattle.clap.specs.declared.parser.matches.Found.{Found}
 use Rattle.clap.proofs.CallerLemmas.{some_of_text}
 use Rattle.clap.proofs.WalkLemmas.{first_value-rows, one_text-rows}
 use Rattle.s39_clap.specs.Faults.{is_mistake}
-use Rattle.s39_clap.specs.Found.{EntersOne, HasNumber, IsFilled}
+use Rattle.s39_clap.specs.Found.{EntersOne, HasNumber, IsFilled, IsOnly, has_some}
 use Rattle.s39_clap.proofs.Agreement.{faultless_taken, one_request_or_mistakes, request_alone}
-use Rattle.s39_clap.proofs.Entered.{enters_some, taken_enters_one}
+use Rattle.s39_clap.proofs.Entered.{entered_fills, enters_some, named, taken_enters_one}
 use Rattle.s39_clap.proofs.Values.{flag_said, has_value, number_read}
 use Rattle.s39_command.specs.Command.{AnswersKind, AnswersWords, AsksForText, IsFormSaid, commands, exponent_rule, extendable_rule, fingerprint_rule, flag_text}
 use Rattle.s39_command.specs.Command.{limit_rule, names_rule, random_file_rule}
 use Rattle.s39_command.specs.Command.{plan_rule}
-use Rattle.s39_command.specs.Command.{IsGiven, SaysHelp, shamir_app}
+use Rattle.s39_command.specs.Command.{IsGiven, SaysHelp, shamir_app, shamir_top, text_at}
 use Rattle.s39_kdf.specs.declared.secret_form.SecretForm.{SecretForm}
 use Rattle.s39_kdf.specs.declared.secret_form.SecretForm.TheVariants.{Digits, Fingerprint}
 use Rattle.s39_command.proofs.Help.{help_faults, says_help, settled_app}
@@ -65,213 +65,112 @@ same_entered f g same = (cc, cc)
 other_name : (a b : Text) → bytes_eq a b ≡ false → a ≡ b → ⊥
 other_name a b differ same = true≢false (sym ((bytes_eq-Decides a b).1 same) ∙ differ)
 
--- the arguments of `create`, built
-create_rules : List Rule
-unfolding shamir_app
-create_rules = option_map_or (λ s. s.rules) (slice_get commands 1) []
+-- the command at this place, and its arguments
+abbrev pub shape_at : ℕ → Shape
+shape_at i = unwrap_or (slice_get commands i) shamir_top
 
--- and those of `recover`
-recover_rules : List Rule
-unfolding shamir_app
-recover_rules = option_map_or (λ s. s.rules) (slice_get commands 2) []
+abbrev rules_at : ℕ → List Rule
+rules_at i = (shape_at i).rules
 
--- and those of `drill`
-drill_rules : List Rule
-unfolding shamir_app
-drill_rules = option_map_or (λ s. s.rules) (slice_get commands 3) []
+-- what was found enters the command of this name
+abbrev Enters : Text → Found → Type 0
+Enters name f = EntersOne commands (Some (name, rows_of f))
 
--- and those of `reissue`
-reissue_rules : List Rule
-unfolding shamir_app
-reissue_rules = option_map_or (λ s. s.rules) (slice_get commands 5) []
+-- a getter has a text
+abbrev GetsText : Found → Text → Option (Bor Text) → Type 0
+GetsText f id got = option_map (λ t. t.now) got ≡ first_value f id → is_some got ≡ true
 
--- and those of `resplit`
-resplit_rules : List Rule
-unfolding shamir_app
-resplit_rules = option_map_or (λ s. s.rules) (slice_get commands 7) []
+-- a getter of numbers with so many bits reads one between these
+abbrev GetsNumber : ℕ → ℕ → ℕ → Found → Text → Option ℕ → Type 0
+GetsNumber bits low high f id got = ((t : Text) → one_text f id ≡ Some t
+    → ReadsOne (λ bs r. ParsesUnsigned bits 10 bs r × ExplainsUnsignedError 10 bs r × HasUnsignedDigitsIfOk bs r) t got)
+    → (n : ℕ) × (got ≡ Some n) × (low ≤ n) × (n ≤ high) × HasNumber id (rows_of f) n
 
--- words that enter `create` have values for its arguments
-create_filled : (rows : List Row) → EntersOne commands (Some (codes "create", rows)) → IsFilled create_rules rows
-unfolding shamir_app create_rules
-create_filled rows (inl show) = absurd (other_name (codes "create") (codes "show") refl (same_entered _ _ show.1).0)
-create_filled rows (inr (inl create)) = subst (IsFilled create_rules) (sym (same_entered _ _ create.1).1) create.2
-create_filled rows (inr (inr (inl recover))) = absurd (other_name (codes "create") (codes "recover") refl (same_entered _ _ recover.1).0)
-create_filled rows (inr (inr (inr (inl drill)))) = absurd (other_name (codes "create") (codes "drill") refl (same_entered _ _ drill.1).0)
-create_filled rows (inr (inr (inr (inr (inl status))))) = absurd (other_name (codes "create") (codes "status") refl (same_entered _ _ status.1).0)
-create_filled rows (inr (inr (inr (inr (inr (inl reissue)))))) = absurd (other_name (codes "create") (codes "reissue") refl (same_entered _ _ reissue.1).0)
-create_filled rows (inr (inr (inr (inr (inr (inr (inl repair))))))) = absurd (other_name (codes "create") (codes "repair") refl (same_entered _ _ repair.1).0)
-create_filled rows (inr (inr (inr (inr (inr (inr (inr (inl resplit)))))))) =
-    absurd (other_name (codes "create") (codes "resplit") refl (same_entered _ _ resplit.1).0)
-create_filled rows (inr (inr (inr (inr (inr (inr (inr (inr none)))))))) = absurd none
+-- a getter of a flag reads whether it is said
+abbrev SaysOrNot : Found → Text → Type 0
+SaysOrNot f id = (one_text f id ≡ Some (codes "true")) ⊎ (one_text f id ≡ Some (codes "false"))
 
--- and those that enter `recover`
-recover_filled : (rows : List Row) → EntersOne commands (Some (codes "recover", rows)) → IsFilled recover_rules rows
-unfolding shamir_app recover_rules
-recover_filled rows (inl show) = absurd (other_name (codes "recover") (codes "show") refl (same_entered _ _ show.1).0)
-recover_filled rows (inr (inl create)) = absurd (other_name (codes "recover") (codes "create") refl (same_entered _ _ create.1).0)
-recover_filled rows (inr (inr (inl recover))) = subst (IsFilled recover_rules) (sym (same_entered _ _ recover.1).1) recover.2
-recover_filled rows (inr (inr (inr (inl drill)))) = absurd (other_name (codes "recover") (codes "drill") refl (same_entered _ _ drill.1).0)
-recover_filled rows (inr (inr (inr (inr (inl status))))) = absurd (other_name (codes "recover") (codes "status") refl (same_entered _ _ status.1).0)
-recover_filled rows (inr (inr (inr (inr (inr (inl reissue)))))) = absurd (other_name (codes "recover") (codes "reissue") refl (same_entered _ _ reissue.1).0)
-recover_filled rows (inr (inr (inr (inr (inr (inr (inl repair))))))) = absurd (other_name (codes "recover") (codes "repair") refl (same_entered _ _ repair.1).0)
-recover_filled rows (inr (inr (inr (inr (inr (inr (inr (inl resplit)))))))) =
-    absurd (other_name (codes "recover") (codes "resplit") refl (same_entered _ _ resplit.1).0)
-recover_filled rows (inr (inr (inr (inr (inr (inr (inr (inr none)))))))) = absurd none
+module _ (i : ℕ) (name : Text) (only : named name commands ≡ shape_at i ∷ []) (f : Found) (enters : Enters name f) (a : Rule) (id : Text)
+    (alone : IsOnly a id (rules_at i)) (wanted : (a.required || has_some a.defaults) ≡ true) where
+  fills : IsFilled (rules_at i) (rows_of f)
+  fills = entered_fills commands name (rows_of f) (shape_at i) only enters
 
--- and those that enter `drill`
-drill_filled : (rows : List Row) → EntersOne commands (Some (codes "drill", rows)) → IsFilled drill_rules rows
-unfolding shamir_app drill_rules
-drill_filled rows (inl show) = absurd (other_name (codes "drill") (codes "show") refl (same_entered _ _ show.1).0)
-drill_filled rows (inr (inl create)) = absurd (other_name (codes "drill") (codes "create") refl (same_entered _ _ create.1).0)
-drill_filled rows (inr (inr (inl recover))) = absurd (other_name (codes "drill") (codes "recover") refl (same_entered _ _ recover.1).0)
-drill_filled rows (inr (inr (inr (inl drill)))) = subst (IsFilled drill_rules) (sym (same_entered _ _ drill.1).1) drill.2
-drill_filled rows (inr (inr (inr (inr (inl status))))) = absurd (other_name (codes "drill") (codes "status") refl (same_entered _ _ status.1).0)
-drill_filled rows (inr (inr (inr (inr (inr (inl reissue)))))) = absurd (other_name (codes "drill") (codes "reissue") refl (same_entered _ _ reissue.1).0)
-drill_filled rows (inr (inr (inr (inr (inr (inr (inl repair))))))) = absurd (other_name (codes "drill") (codes "repair") refl (same_entered _ _ repair.1).0)
-drill_filled rows (inr (inr (inr (inr (inr (inr (inr (inl resplit)))))))) =
-    absurd (other_name (codes "drill") (codes "resplit") refl (same_entered _ _ resplit.1).0)
-drill_filled rows (inr (inr (inr (inr (inr (inr (inr (inr none)))))))) = absurd none
+  text_there : (got : Option (Bor Text)) → GetsText f id got
+  text_there got given =
+      let value = has_value (rules_at i) (rows_of f) a id alone wanted fills in
+      some_of_text (λ t. t.now) got _ (given ∙ first_value-rows f id) (ap is_some value.1.first)
 
--- and those that enter `reissue`
-reissue_filled : (rows : List Row) → EntersOne commands (Some (codes "reissue", rows)) → IsFilled reissue_rules rows
-unfolding shamir_app reissue_rules
-reissue_filled rows (inl show) = absurd (other_name (codes "reissue") (codes "show") refl (same_entered _ _ show.1).0)
-reissue_filled rows (inr (inl create)) = absurd (other_name (codes "reissue") (codes "create") refl (same_entered _ _ create.1).0)
-reissue_filled rows (inr (inr (inl recover))) = absurd (other_name (codes "reissue") (codes "recover") refl (same_entered _ _ recover.1).0)
-reissue_filled rows (inr (inr (inr (inl drill)))) = absurd (other_name (codes "reissue") (codes "drill") refl (same_entered _ _ drill.1).0)
-reissue_filled rows (inr (inr (inr (inr (inl status))))) = absurd (other_name (codes "reissue") (codes "status") refl (same_entered _ _ status.1).0)
-reissue_filled rows (inr (inr (inr (inr (inr (inl reissue)))))) = subst (IsFilled reissue_rules) (sym (same_entered _ _ reissue.1).1) reissue.2
-reissue_filled rows (inr (inr (inr (inr (inr (inr (inl repair))))))) = absurd (other_name (codes "reissue") (codes "repair") refl (same_entered _ _ repair.1).0)
-reissue_filled rows (inr (inr (inr (inr (inr (inr (inr (inl resplit)))))))) =
-    absurd (other_name (codes "reissue") (codes "resplit") refl (same_entered _ _ resplit.1).0)
-reissue_filled rows (inr (inr (inr (inr (inr (inr (inr (inr none)))))))) = absurd none
+  number_there : (bits low high : ℕ) (got : Option ℕ) → a.parser ≡ Some (vp.Signed (pos low) (pos high)) → high < 2 ^ bits
+      → GetsNumber bits low high f id got
+  number_there bits low high got parser fits reads =
+      number_read _ (λ bs r. ParsesUnsigned bits 10 bs r × ExplainsUnsignedError 10 bs r × HasUnsignedDigitsIfOk bs r) bits low high (rules_at i) (rows_of f) a
+      id got alone wanted parser fills (λ u x gives. gives.0) fits (λ u has. reads u (one_text-rows f id ∙ has))
 
--- and those that enter `resplit`
-resplit_filled : (rows : List Row) → EntersOne commands (Some (codes "resplit", rows)) → IsFilled resplit_rules rows
-unfolding shamir_app resplit_rules
-resplit_filled rows (inl show) = absurd (other_name (codes "resplit") (codes "show") refl (same_entered _ _ show.1).0)
-resplit_filled rows (inr (inl create)) = absurd (other_name (codes "resplit") (codes "create") refl (same_entered _ _ create.1).0)
-resplit_filled rows (inr (inr (inl recover))) = absurd (other_name (codes "resplit") (codes "recover") refl (same_entered _ _ recover.1).0)
-resplit_filled rows (inr (inr (inr (inl drill)))) = absurd (other_name (codes "resplit") (codes "drill") refl (same_entered _ _ drill.1).0)
-resplit_filled rows (inr (inr (inr (inr (inl status))))) = absurd (other_name (codes "resplit") (codes "status") refl (same_entered _ _ status.1).0)
-resplit_filled rows (inr (inr (inr (inr (inr (inl reissue)))))) = absurd (other_name (codes "resplit") (codes "reissue") refl (same_entered _ _ reissue.1).0)
-resplit_filled rows (inr (inr (inr (inr (inr (inr (inl repair))))))) = absurd (other_name (codes "resplit") (codes "repair") refl (same_entered _ _ repair.1).0)
-resplit_filled rows (inr (inr (inr (inr (inr (inr (inr (inl resplit)))))))) = subst (IsFilled resplit_rules) (sym (same_entered _ _ resplit.1).1) resplit.2
-resplit_filled rows (inr (inr (inr (inr (inr (inr (inr (inr none)))))))) = absurd none
+  flag_there : a.parser ≡ Some vp.Bool → SaysOrNot f id
+  flag_there parser = ⊎_elim (λ said. inl (one_text-rows f id ∙ said)) (λ unsaid. inr (one_text-rows f id ∙ unsaid))
+      (flag_said (rules_at i) (rows_of f) a id alone wanted parser fills)
 
--- what was found enters `create`
-abbrev EntersCreate : Found → Type 0
-EntersCreate f = EntersOne commands (Some (codes "create", rows_of f))
+module _ (f : Found) where
+  pub plan_there : (got : Option (Bor Text)) → Enters (codes "create") f → GetsText f (codes "plan") got
+  unfolding shamir_app
+  plan_there got enters = text_there 1 (codes "create") refl f enters (with_index 1 (filled plan_rule)) (codes "plan") refl refl got
 
--- a getter of a text that is there has one
-some_of_rows : (f : Found) (id : Text) (got : Option (Bor Text)) (text : Text) → option_map (λ t. t.now) got ≡ first_value f id
-    → first_of id (rows_of f) ≡ Some text → is_some got ≡ true
-some_of_rows f id got text given first = some_of_text (λ t. t.now) got _ (given ∙ first_value-rows f id) (ap is_some first)
+  pub reissue_plan_there : (got : Option (Bor Text)) → Enters (codes "reissue") f → GetsText f (codes "plan") got
+  unfolding shamir_app
+  reissue_plan_there got enters = text_there 5 (codes "reissue") refl f enters (with_index 1 (filled plan_rule)) (codes "plan") refl refl got
 
-pub plan_there : (f : Found) (got : Option (Bor Text)) → EntersCreate f → option_map (λ t. t.now) got ≡ first_value f (codes "plan") → is_some got ≡ true
-unfolding shamir_app create_rules
-plan_there f got enters given =
-    let value = has_value create_rules (rows_of f) (with_index 1 (filled plan_rule)) (codes "plan") refl refl (create_filled (rows_of f) enters) in
-    some_of_rows f (codes "plan") got value.0 given value.1.first
+  pub names_there : (got : Option (Bor Text)) → Enters (codes "reissue") f → GetsText f (codes "names") got
+  unfolding shamir_app
+  names_there got enters = text_there 5 (codes "reissue") refl f enters (with_index 2 (filled names_rule)) (codes "names") refl refl got
 
--- what was found enters `reissue`
-abbrev EntersReissue : Found → Type 0
-EntersReissue f = EntersOne commands (Some (codes "reissue", rows_of f))
+  pub resplit_plan_there : (got : Option (Bor Text)) → Enters (codes "resplit") f → GetsText f (codes "plan") got
+  unfolding shamir_app
+  resplit_plan_there got enters = text_there 7 (codes "resplit") refl f enters (with_index 1 (filled plan_rule)) (codes "plan") refl refl got
 
-pub reissue_plan_there : (f : Found) (got : Option (Bor Text)) → EntersReissue f → option_map (λ t. t.now) got ≡ first_value f (codes "plan")
-    → is_some got ≡ true
-unfolding shamir_app reissue_rules
-reissue_plan_there f got enters given =
-    let value = has_value reissue_rules (rows_of f) (with_index 1 (filled plan_rule)) (codes "plan") refl refl (reissue_filled (rows_of f) enters) in
-    some_of_rows f (codes "plan") got value.0 given value.1.first
+  pub random_file_there : (got : Option (Bor Text)) → Enters (codes "resplit") f → GetsText f (codes "random-file") got
+  unfolding shamir_app
+  random_file_there got enters =
+      text_there 7 (codes "resplit") refl f enters (with_index 2 (filled random_file_rule)) (codes "random-file") refl refl got
 
-pub names_there : (f : Found) (got : Option (Bor Text)) → EntersReissue f → option_map (λ t. t.now) got ≡ first_value f (codes "names")
-    → is_some got ≡ true
-unfolding shamir_app reissue_rules
-names_there f got enters given =
-    let value = has_value reissue_rules (rows_of f) (with_index 2 (filled names_rule)) (codes "names") refl refl (reissue_filled (rows_of f) enters) in
-    some_of_rows f (codes "names") got value.0 given value.1.first
+  pub exponent_there : (got : Option ℕ) → Enters (codes "create") f → GetsNumber 8 0 15 f (codes "exponent") got
+  unfolding shamir_app
+  exponent_there got enters =
+      number_there 1 (codes "create") refl f enters (with_index 2 (filled exponent_rule)) (codes "exponent") refl refl 8 0 15 got refl (omega arith)
 
--- what was found enters `resplit`
-abbrev EntersResplit : Found → Type 0
-EntersResplit f = EntersOne commands (Some (codes "resplit", rows_of f))
+  pub limit_there : (got : Option ℕ) → Enters (codes "drill") f → GetsNumber 32 1 4294967295 f (codes "limit") got
+  unfolding shamir_app
+  limit_there got enters =
+      number_there 3 (codes "drill") refl f enters (with_index 1 (filled limit_rule)) (codes "limit") refl refl 32 1 4294967295 got refl (omega arith)
 
-pub resplit_plan_there : (f : Found) (got : Option (Bor Text)) → EntersResplit f → option_map (λ t. t.now) got ≡ first_value f (codes "plan")
-    → is_some got ≡ true
-unfolding shamir_app resplit_rules
-resplit_plan_there f got enters given =
-    let value = has_value resplit_rules (rows_of f) (with_index 1 (filled plan_rule)) (codes "plan") refl refl (resplit_filled (rows_of f) enters) in
-    some_of_rows f (codes "plan") got value.0 given value.1.first
+  pub extendable_there : (said : Bool) → Enters (codes "create") f → (one_text f (codes "extendable") ≡ Some (codes "true") → said ≡ true)
+      → (one_text f (codes "extendable") ≡ Some (codes "false") → said ≡ false) → one_of (codes "extendable") (rows_of f) ≡ Some (flag_text said)
+  unfolding shamir_app
+  extendable_there said enters is_true is_false =
+      sym (one_text-rows f (codes "extendable"))
+      ∙ ⊎_elim (λ there. there ∙ ap (λ b. Some (flag_text b)) (sym (is_true there))) (λ missing. missing ∙ ap (λ b. Some (flag_text b)) (sym (is_false missing)))
+      (flag_there 1 (codes "create") refl f enters (with_index 2 (filled extendable_rule)) (codes "extendable") refl refl refl)
 
-pub random_file_there : (f : Found) (got : Option (Bor Text)) → EntersResplit f
-    → option_map (λ t. t.now) got ≡ first_value f (codes "random-file") → is_some got ≡ true
-unfolding shamir_app resplit_rules
-random_file_there f got enters given =
-    let value = has_value resplit_rules (rows_of f) (with_index 2 (filled random_file_rule)) (codes "random-file") refl refl
-    (resplit_filled (rows_of f) enters) in
-    some_of_rows f (codes "random-file") got value.0 given value.1.first
+  module _ (form : SecretForm) where
+    -- a getter of the flag reads the form
+    abbrev ReadsForm : Type 0
+    ReadsForm = (one_text f (codes "fingerprint") ≡ Some (codes "true") → form ≡ Fingerprint)
+        → (one_text f (codes "fingerprint") ≡ Some (codes "false") → form ≡ Digits) → IsFormSaid (rows_of f) form
 
--- the number that a getter of a `u8` reads of the exponent
-pub exponent_there : (f : Found) (got : Option ℕ) → EntersCreate f
-    → ((t : Text) → one_text f (codes "exponent") ≡ Some t → ReadsOne (λ bs r. ParsesUnsigned 8 10 bs r × ExplainsUnsignedError 10 bs r ×
-    HasUnsignedDigitsIfOk bs r) t got)
-    → (n : ℕ) × (got ≡ Some n) × (n < 16) × HasNumber (codes "exponent") (rows_of f) n
-unfolding shamir_app create_rules
-exponent_there f got enters reads =
-    let read = number_read _ (λ bs r. ParsesUnsigned 8 10 bs r × ExplainsUnsignedError 10 bs r × HasUnsignedDigitsIfOk bs r) 8 0 15 create_rules (rows_of f)
-    (with_index 2 (filled exponent_rule)) (codes "exponent") got refl refl refl (create_filled (rows_of f) enters) (λ u x gives. gives.0) (omega arith)
-    (λ u has. reads u (one_text-rows f (codes "exponent") ∙ has)) in
-    (read.0, read.1, omega arith, read.4)
+    form_there : SaysOrNot f (codes "fingerprint") → ReadsForm
+    form_there (inl said) is_true is_false =
+        subst (IsFormSaid (rows_of f)) (sym (is_true said)) (sym (one_text-rows f (codes "fingerprint")) ∙ said)
+    form_there (inr unsaid) is_true is_false =
+        subst (IsFormSaid (rows_of f)) (sym (is_false unsaid)) (sym (one_text-rows f (codes "fingerprint")) ∙ unsaid)
 
-pub extendable_there : (f : Found) (said : Bool) → EntersCreate f → (one_text f (codes "extendable") ≡ Some (codes "true") → said ≡ true)
-    → (one_text f (codes "extendable") ≡ Some (codes "false") → said ≡ false) → one_of (codes "extendable") (rows_of f) ≡ Some (flag_text said)
-unfolding shamir_app create_rules
-extendable_there f said enters is_true is_false =
-    let rows = one_text-rows f (codes "extendable") in
-    ⊎_elim (λ there. there ∙ ap (λ b. Some (flag_text b)) (sym (is_true (rows ∙ there))))
-    (λ missing. missing ∙ ap (λ b. Some (flag_text b)) (sym (is_false (rows ∙ missing))))
-    (flag_said create_rules (rows_of f) (with_index 2 (filled extendable_rule)) (codes "extendable") refl refl refl (create_filled (rows_of f) enters))
+    pub recover_form_there : Enters (codes "recover") f → ReadsForm
+    unfolding shamir_app
+    recover_form_there enters =
+        form_there (flag_there 2 (codes "recover") refl f enters (with_index 1 (filled fingerprint_rule)) (codes "fingerprint") refl refl refl)
 
--- the form that a flag which is said or isn't asks for
-form_said : (rows : List Row) (form : SecretForm) → (one_of (codes "fingerprint") rows ≡ Some (codes "true"))
-    ⊎ (one_of (codes "fingerprint") rows ≡ Some (codes "false")) → (one_of (codes "fingerprint") rows ≡ Some (codes "true") → form ≡ Fingerprint)
-    → (one_of (codes "fingerprint") rows ≡ Some (codes "false") → form ≡ Digits) → IsFormSaid rows form
-form_said rows form (inl said) is_true is_false = subst (IsFormSaid rows) (sym (is_true said)) said
-form_said rows form (inr unsaid) is_true is_false = subst (IsFormSaid rows) (sym (is_false unsaid)) unsaid
-
-module _ (f : Found) (form : SecretForm) where
-  -- a getter of the flag reads the form
-  abbrev ReadsForm : Type 0
-  ReadsForm = (one_text f (codes "fingerprint") ≡ Some (codes "true") → form ≡ Fingerprint)
-      → (one_text f (codes "fingerprint") ≡ Some (codes "false") → form ≡ Digits) → IsFormSaid (rows_of f) form
-
-  pub recover_form_there : EntersOne commands (Some (codes "recover", rows_of f)) → ReadsForm
-  unfolding shamir_app recover_rules
-  recover_form_there enters is_true is_false =
-      let rows = one_text-rows f (codes "fingerprint") in
-      form_said (rows_of f) form
-      (flag_said recover_rules (rows_of f) (with_index 1 (filled fingerprint_rule)) (codes "fingerprint") refl refl refl (recover_filled (rows_of f) enters))
-      (λ said. is_true (rows ∙ said)) (λ unsaid. is_false (rows ∙ unsaid))
-
-  pub drill_form_there : EntersOne commands (Some (codes "drill", rows_of f)) → ReadsForm
-  unfolding shamir_app drill_rules
-  drill_form_there enters is_true is_false =
-      let rows = one_text-rows f (codes "fingerprint") in
-      form_said (rows_of f) form
-      (flag_said drill_rules (rows_of f) (with_index 1 (filled fingerprint_rule)) (codes "fingerprint") refl refl refl (drill_filled (rows_of f) enters))
-      (λ said. is_true (rows ∙ said)) (λ unsaid. is_false (rows ∙ unsaid))
-
--- the number that a getter of a `u32` reads of the limit
-pub limit_there : (f : Found) (got : Option ℕ) → EntersOne commands (Some (codes "drill", rows_of f))
-    → ((t : Text) → one_text f (codes "limit") ≡ Some t → ReadsOne (λ bs r. ParsesUnsigned 32 10 bs r × ExplainsUnsignedError 10 bs r ×
-    HasUnsignedDigitsIfOk bs r) t got)
-    → (n : ℕ) × (got ≡ Some n) × (1 ≤ n) × HasNumber (codes "limit") (rows_of f) n
-unfolding shamir_app drill_rules
-limit_there f got enters reads =
-    let read = number_read _ (λ bs r. ParsesUnsigned 32 10 bs r × ExplainsUnsignedError 10 bs r × HasUnsignedDigitsIfOk bs r) 32 1 4294967295 drill_rules
-    (rows_of f) (with_index 1 (filled limit_rule)) (codes "limit") got refl refl refl (drill_filled (rows_of f) enters) (λ u x gives. gives.0) (omega arith)
-    (λ u has. reads u (one_text-rows f (codes "limit") ∙ has)) in
-    (read.0, read.1, read.2, read.4)
+    pub drill_form_there : Enters (codes "drill") f → ReadsForm
+    unfolding shamir_app
+    drill_form_there enters =
+        form_there (flag_there 3 (codes "drill") refl f enters (with_index 1 (filled fingerprint_rule)) (codes "fingerprint") refl refl refl)
 
 -- a text that is got is what is found
 pub found_of_rows : (f : Found) (id : Text) (got : Option (Bor Text)) (text : Bor Text) → option_map (λ t. t.now) got ≡ first_value f id → got ≡ Some text
@@ -280,7 +179,7 @@ found_of_rows f id got text given some = sym (first_value-rows f id) ∙ sym giv
 
 -- a text is found where a getter has one
 pub given_of_rows : (f : Found) (id : Text) (got : Option (Bor Text)) → option_map (λ t. t.now) got ≡ first_value f id → is_some got ≡ true
-    → IsGiven id (rows_of f)
+    → IsGiven id (text_at (rows_of f))
 given_of_rows f id None given some = absurd (true≢false (sym some))
 given_of_rows f id (Some text) given some = (text.now, sym (first_value-rows f id) ∙ sym given)
 

@@ -1,39 +1,13 @@
 -- Words that are written out.
-use Rattle.std.proofs.Common.{◌≡◌, ◌∙◌, ◌==◌, ◌++◌, ℕ, false, [], ◌∷◌, codes, pos, ap, inl, inr, refl, sym, true≢false}
+use Rattle.std.proofs.Common.{◌≡◌, ◌∙◌, ◌==◌, ℕ, Bool, false, true, not, map, flat_map, List, [], ◌∷◌, codes, Some, ap, inl, inr, refl, sym, true≢false}
+use Rattle.std.specs.List.{list_all}
 use Rattle.clap.specs.Words.{Text}
-use Rattle.clap.specs.declared.builder.value_parser.ValueParser.TheVariants as vp
-use Rattle.clap.proofs.ValueTestLemmas.{accepts-Accepts}
-use Rattle.s39_clap.specs.Options.{HasNoDash}
-use Rattle.s39_kdf.specs.declared.secret_form.SecretForm.TheVariants.{Digits, Fingerprint}
-use Rattle.s39_command.specs.Words.{ApartDrill, AreCreateWords, AreDrillWords, AreExpectingDrillWords, AreExpectingRecoverWords, AreRecoverWords, IsLimit, JoinedDrill, drill_apart}
-
-pub joined_drill : JoinedDrill
-joined_drill program p q n = record {
-  program = program;
-  form_words = [];
-  form_asked = refl;
-  passphrase_words = (codes "--passphrase=" ++ p) ∷ [];
-  after_words = (codes "--after=" ++ q) ∷ [];
-  limit_words = (codes "--limit=" ++ n) ∷ [];
-  passphrase_given = inl refl;
-  after_given = inl refl;
-  limit_given = inl refl;
-  words_are = refl;
-}
-
-pub apart_drill : ApartDrill
-apart_drill program p q n no_p no_q no_n = record {
-  program = program;
-  form_words = [];
-  form_asked = refl;
-  passphrase_words = codes "--passphrase" ∷ p ∷ [];
-  after_words = codes "--after" ∷ q ∷ [];
-  limit_words = codes "--limit" ∷ n ∷ [];
-  passphrase_given = inr (no_p, refl);
-  after_given = inr (no_q, refl);
-  limit_given = inr (no_n, refl);
-  words_are = refl;
-}
+use Rattle.clap.proofs.WalkLemmas.{both}
+use Rattle.s39_clap.specs.Arguments.{AreWordsOf, AreWordsOfAll, Given, option, flag, positional}
+use Rattle.s39_clap.specs.Options.{HasNoDash, joined_word, name_word}
+use Rattle.s39_clap.proofs.Arguments.{are_given_to, given_to}
+use Rattle.s39_command.specs.Words.{AreWords, command_of}
+use Rattle.s39_command.proofs.Jobs.{shape_at}
 
 -- a text that begins with another letter
 abbrev begins : Text → ℕ
@@ -43,88 +17,57 @@ begins (x ∷ xs) = x
 pub no_dash : (text : Text) → (begins text == 45) ≡ false → HasNoDash text
 no_dash text differs rest same = true≢false (sym (ap (λ (t : Text). begins t == 45) same) ∙ differs)
 
-pub drill_literal : AreDrillWords Digits (codes "TREZOR") (codes "0.0") (codes "5")
-    (drill_apart (codes "shamir") (codes "TREZOR") (codes "0.0") (codes "5"))
-drill_literal =
-    apart_drill (codes "shamir") (codes "TREZOR") (codes "0.0") (codes "5") (no_dash (codes "TREZOR") refl) (no_dash (codes "0.0") refl)
-    (no_dash (codes "5") refl)
+-- an argument that is written out: an option in one word or in two, a flag, or a positional
+pub data Written : Type 0 where
+  joined : Text → Text → Written
+  apart : Text → Text → Written
+  said : Text → Written
+  placed : Text → Text → Written
 
-pub recover_literal : AreRecoverWords Digits (codes "TREZOR") (codes "shamir" ∷ codes "recover" ∷ codes "--passphrase" ∷ codes "TREZOR" ∷ [])
-recover_literal = record {
+abbrev pub given_by : Written → Given
+given_by (joined name value) = option name value
+given_by (apart name value) = option name value
+given_by (said name) = flag name
+given_by (placed name value) = positional name value
+
+abbrev pub words_by : Written → List Text
+words_by (joined name value) = joined_word name value ∷ []
+words_by (apart name value) = name_word name ∷ value ∷ []
+words_by (said name) = name_word name ∷ []
+words_by (placed name value) = value ∷ []
+
+-- no word that is a value begins with a dash
+abbrev pub is_plain : Written → Bool
+is_plain (joined name value) = true
+is_plain (apart name value) = not (begins value == 45)
+is_plain (said name) = true
+is_plain (placed name value) = not (begins value == 45)
+
+is_no : (b : Bool) → not b ≡ true → b ≡ false
+is_no false is = refl
+is_no true is = absurd (true≢false (sym is))
+
+one_written : (w : Written) → is_plain w ≡ true → AreWordsOf (given_by w) (words_by w)
+one_written (joined name value) plain = inl refl
+one_written (apart name value) plain = inr (no_dash value (is_no (begins value == 45) plain), refl)
+one_written (said name) plain = refl
+one_written (placed name value) plain = (no_dash value (is_no (begins value == 45) plain), refl)
+
+all_written : (all : List Written) → list_all is_plain all ≡ true → AreWordsOfAll (map given_by all) (flat_map words_by all)
+all_written [] plain = refl
+all_written (w ∷ rest) plain =
+    let parts = both (is_plain w) (list_all is_plain rest) plain in
+    (words_by w, flat_map words_by rest, refl, one_written w parts.0, all_written rest parts.1)
+
+-- the words of the command at a place
+pub written : (i : ℕ) (name : Text) (all : List Written) → command_of name ≡ Some (shape_at i) → are_given_to (shape_at i) (map given_by all) ≡ true
+    → list_all is_plain all ≡ true → AreWords name (map given_by all) (codes "shamir" ∷ name ∷ flat_map words_by all)
+written i name all named fit plain = record {
   program = codes "shamir";
-  form_words = [];
-  form_asked = refl;
-  passphrase_words = codes "--passphrase" ∷ codes "TREZOR" ∷ [];
-  passphrase_given = inr (no_dash (codes "TREZOR") refl, refl);
+  command = shape_at i;
+  level = flat_map words_by all;
+  named = named;
+  fit = given_to (shape_at i) (map given_by all) fit;
+  level_words = all_written all plain;
   words_are = refl;
 }
-
-pub fingerprints_literal : AreDrillWords Fingerprint (codes "TREZOR") (codes "0.0") (codes "5")
-    (codes "shamir" ∷ codes "drill" ∷ codes "--fingerprint" ∷ codes "--passphrase=TREZOR" ∷ codes "--after=0.0" ∷ codes "--limit=5" ∷ [])
-fingerprints_literal = record {
-  program = codes "shamir";
-  form_words = codes "--fingerprint" ∷ [];
-  form_asked = refl;
-  passphrase_words = codes "--passphrase=TREZOR" ∷ [];
-  after_words = codes "--after=0.0" ∷ [];
-  limit_words = codes "--limit=5" ∷ [];
-  passphrase_given = inl refl;
-  after_given = inl refl;
-  limit_given = inl refl;
-  words_are = refl;
-}
-
-pub fingerprint_literal : AreRecoverWords Fingerprint (codes "TREZOR")
-    (codes "shamir" ∷ codes "recover" ∷ codes "--fingerprint" ∷ codes "--passphrase" ∷ codes "TREZOR" ∷ [])
-fingerprint_literal = record {
-  program = codes "shamir";
-  form_words = codes "--fingerprint" ∷ [];
-  form_asked = refl;
-  passphrase_words = codes "--passphrase" ∷ codes "TREZOR" ∷ [];
-  passphrase_given = inr (no_dash (codes "TREZOR") refl, refl);
-  words_are = refl;
-}
-
-pub expecting_drill_literal : AreExpectingDrillWords (codes "DF41d8fe") (codes "TREZOR") (codes "0.0") (codes "5")
-    (codes "shamir" ∷ codes "drill" ∷ codes "--expect" ∷ codes "DF41d8fe" ∷ codes "--passphrase=TREZOR" ∷ codes "--after=0.0" ∷ codes "--limit=5" ∷ [])
-expecting_drill_literal = record {
-  program = codes "shamir";
-  expect_words = codes "--expect" ∷ codes "DF41d8fe" ∷ [];
-  passphrase_words = codes "--passphrase=TREZOR" ∷ [];
-  after_words = codes "--after=0.0" ∷ [];
-  limit_words = codes "--limit=5" ∷ [];
-  expected_given = inr (no_dash (codes "DF41d8fe") refl, refl);
-  passphrase_given = inl refl;
-  after_given = inl refl;
-  limit_given = inl refl;
-  words_are = refl;
-}
-
-pub expecting_recover_literal : AreExpectingRecoverWords Digits (codes "DF41d8fe") (codes "TREZOR")
-    (codes "shamir" ∷ codes "recover" ∷ codes "--expect=DF41d8fe" ∷ codes "--passphrase" ∷ codes "TREZOR" ∷ [])
-expecting_recover_literal = record {
-  program = codes "shamir";
-  form_words = [];
-  expect_words = codes "--expect=DF41d8fe" ∷ [];
-  passphrase_words = codes "--passphrase" ∷ codes "TREZOR" ∷ [];
-  form_asked = refl;
-  expected_given = inl refl;
-  passphrase_given = inr (no_dash (codes "TREZOR") refl, refl);
-  words_are = refl;
-}
-
-pub create_literal : AreCreateWords (codes "2of3") (codes "00112233445566778899aabbccddeeff") (codes "TREZOR")
-    (codes "shamir" ∷ codes "create" ∷ codes "--master-secret" ∷ codes "00112233445566778899aabbccddeeff"
-    ∷ codes "--passphrase" ∷ codes "TREZOR" ∷ codes "2of3" ∷ [])
-create_literal = record {
-  program = codes "shamir";
-  secret_words = codes "--master-secret" ∷ codes "00112233445566778899aabbccddeeff" ∷ [];
-  passphrase_words = codes "--passphrase" ∷ codes "TREZOR" ∷ [];
-  secret_given = inr (no_dash (codes "00112233445566778899aabbccddeeff") refl, refl);
-  passphrase_given = inr (no_dash (codes "TREZOR") refl, refl);
-  plan_given = no_dash (codes "2of3") refl;
-  words_are = refl;
-}
-
-pub limit_literal : IsLimit (codes "5")
-limit_literal = accepts-Accepts false (vp.Signed (pos 1) (pos 4294967295)) (codes "5") refl

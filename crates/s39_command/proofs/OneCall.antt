@@ -9,7 +9,7 @@ use Rattle.s39_kdf.specs.declared.secret_form.SecretForm.TheVariants.{Digits, Fi
 use Rattle.s39_command.specs.declared.command.Job.{Job}
 use Rattle.s39_command.specs.declared.command.Job.TheVariants as job
 use Rattle.s39_command.specs.declared.command.Texts.{Texts}
-use Rattle.s39_command.specs.Command.{AreFound, AreSameTexts, Gives, HaveSameValues, IsFormSaid, flag_text, shamir_app}
+use Rattle.s39_command.specs.Command.{AreFound, AreSameTexts, Gives, HaveSameValues, IsFormSaid, flag_text, shamir_app, text_at}
 use Rattle.s39_command.specs.Words.{OneCall}
 
 pub other_text : (a b : Text) → bytes_eq a b ≡ false → a ≡ b → ⊥
@@ -82,9 +82,9 @@ module _ (name : Text) (rows : List Row) where
 pub one_found : (o : Option (Text × List Row)) (x y : Text × List Row) → o ≡ Some x → o ≡ Some y → x ≡ y
 one_found o x y is also = cc
 
-same_texts : (secret passphrase : Text) (rows : List Row) (texts other : Texts) → AreFound secret passphrase rows texts
-    → AreFound secret passphrase rows other → AreSameTexts texts other
-same_texts secret passphrase rows texts other is also =
+same_texts : (secret passphrase : Text) (found : Text → Option Text) (texts other : Texts) → AreFound secret passphrase found texts
+    → AreFound secret passphrase found other → AreSameTexts texts other
+same_texts secret passphrase found texts other is also =
     record { secret = is.secret_is ∙ sym also.secret_is; passphrase = is.passphrase_is ∙ sym also.passphrase_is }
 
 pub one_call : OneCall
@@ -95,7 +95,8 @@ one_call words call other is also =
     let names = sym (name_given also.0 also.1 call.job gives) ∙ name_given also.0 also.1 other.job also.3 in
     record {
       values = same_values also.0 also.1 call.job other.job ((bytes_eq-Decides (name_of call.job) (name_of other.job)).1 names) gives also.3;
-      given = same_texts _ _ also.1 call.given other.given (subst (λ r. AreFound (codes "master-secret") (codes "passphrase") r call.given) rows is.4) also.4;
-      files = same_texts _ _ also.1 call.files other.files
-          (subst (λ r. AreFound (codes "master-secret-file") (codes "passphrase-file") r call.files) rows is.5) also.5;
+      given = same_texts _ _ (text_at also.1) call.given other.given
+          (subst (λ r. AreFound (codes "master-secret") (codes "passphrase") (text_at r) call.given) rows is.4) also.4;
+      files = same_texts _ _ (text_at also.1) call.files other.files
+          (subst (λ r. AreFound (codes "master-secret-file") (codes "passphrase-file") (text_at r) call.files) rows is.5) also.5;
     }

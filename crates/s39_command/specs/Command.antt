@@ -188,48 +188,52 @@ Gives name rows (Resplit plan random_file) = (name ≡ codes "resplit")
     × (first_of (codes "plan") rows ≡ Some plan.now)
     × (first_of (codes "random-file") rows ≡ Some random_file.now)
 
+-- the text that is found for each id
+abbrev pub text_at : List Row → Text → Option Text
+text_at rows id = first_of id rows
+
 -- these texts are found for the id of the secret's and for that of the passphrase's
-pub record AreFound (secret passphrase : Text) (rows : List Row) (texts : Texts) : Type 0 where
-  pub secret_is : text_in texts.secret ≡ first_of secret rows
-  pub passphrase_is : text_in texts.passphrase ≡ first_of passphrase rows
+pub record AreFound (secret passphrase : Text) (found : Text → Option Text) (texts : Texts) : Type 0 where
+  pub secret_is : text_in texts.secret ≡ found secret
+  pub passphrase_is : text_in texts.passphrase ≡ found passphrase
 
 -- something is found for the id
-abbrev pub IsGiven : Text → List Row → Type 0
-IsGiven id rows = (text : Text) × (first_of id rows ≡ Some text)
+abbrev pub IsGiven : Text → (Text → Option Text) → Type 0
+IsGiven id found = (text : Text) × (found id ≡ Some text)
 
 -- a backup is created, and neither a secret nor a file of it is given
-abbrev pub LacksSecret : Text → List Row → Type 0
-LacksSecret name rows = (name ≡ codes "create")
-    × (first_of (codes "master-secret") rows ≡ None) × (first_of (codes "master-secret-file") rows ≡ None)
+abbrev pub LacksSecret : Text → (Text → Option Text) → Type 0
+LacksSecret name found = (name ≡ codes "create")
+    × (found (codes "master-secret") ≡ None) × (found (codes "master-secret-file") ≡ None)
 
 -- both are given
-abbrev pub HasTwoSecrets : List Row → Type 0
-HasTwoSecrets rows = IsGiven (codes "master-secret") rows × IsGiven (codes "master-secret-file") rows
+abbrev pub HasTwoSecrets : (Text → Option Text) → Type 0
+HasTwoSecrets found = IsGiven (codes "master-secret") found × IsGiven (codes "master-secret-file") found
 
 -- both a passphrase and a file of it are given
-abbrev pub HasTwoPassphrases : List Row → Type 0
-HasTwoPassphrases rows = IsGiven (codes "passphrase") rows × IsGiven (codes "passphrase-file") rows
+abbrev pub HasTwoPassphrases : (Text → Option Text) → Type 0
+HasTwoPassphrases found = IsGiven (codes "passphrase") found × IsGiven (codes "passphrase-file") found
 
 -- a drill is asked both to print fingerprints and to compare with one
-abbrev pub HasTwoForms : Text → List Row → Type 0
-HasTwoForms name rows =
-    (name ≡ codes "drill") × IsGiven (codes "expect") rows × (first_of (codes "fingerprint") rows ≡ Some (flag_text true))
+abbrev pub HasTwoForms : Text → (Text → Option Text) → Type 0
+HasTwoForms name found =
+    (name ≡ codes "drill") × IsGiven (codes "expect") found × (found (codes "fingerprint") ≡ Some (flag_text true))
 
 -- the random bytes would come from standard input, which has the mnemonics
-abbrev pub HasRandomInput : Text → List Row → Type 0
-HasRandomInput name rows = (name ≡ codes "resplit") × (first_of (codes "random-file") rows ≡ Some (codes "-"))
+abbrev pub HasRandomInput : Text → (Text → Option Text) → Type 0
+HasRandomInput name found = (name ≡ codes "resplit") × (found (codes "random-file") ≡ Some (codes "-"))
 
 -- this is the first fault of the values of the command of this name: one of the secret comes before one of the passphrase, this
 -- one before one of the form, and that of random bytes comes last
-abbrev pub HasBadValues : Text → List Row → BadValues → Type 0
-HasBadValues name rows NoSecret = LacksSecret name rows
-HasBadValues name rows TwoSecrets = HasTwoSecrets rows
-HasBadValues name rows TwoPassphrases = (LacksSecret name rows → ⊥) × (HasTwoSecrets rows → ⊥) × HasTwoPassphrases rows
-HasBadValues name rows TwoForms =
-    (LacksSecret name rows → ⊥) × (HasTwoSecrets rows → ⊥) × (HasTwoPassphrases rows → ⊥) × HasTwoForms name rows
-HasBadValues name rows RandomInput =
-    (LacksSecret name rows → ⊥) × (HasTwoSecrets rows → ⊥) × (HasTwoPassphrases rows → ⊥) × (HasTwoForms name rows → ⊥)
-    × HasRandomInput name rows
+abbrev pub HasBadValues : Text → (Text → Option Text) → BadValues → Type 0
+HasBadValues name found NoSecret = LacksSecret name found
+HasBadValues name found TwoSecrets = HasTwoSecrets found
+HasBadValues name found TwoPassphrases = (LacksSecret name found → ⊥) × (HasTwoSecrets found → ⊥) × HasTwoPassphrases found
+HasBadValues name found TwoForms =
+    (LacksSecret name found → ⊥) × (HasTwoSecrets found → ⊥) × (HasTwoPassphrases found → ⊥) × HasTwoForms name found
+HasBadValues name found RandomInput =
+    (LacksSecret name found → ⊥) × (HasTwoSecrets found → ⊥) × (HasTwoPassphrases found → ⊥) × (HasTwoForms name found → ⊥)
+    × HasRandomInput name found
 
 -- the last line of a text that refuses values
 abbrev pub more_text : Text
@@ -247,14 +251,14 @@ bad_text RandomInput = codes "error: --random-file <FILE> can't be -: standard i
 abbrev pub GivesCall : List Text → Call → Type 0
 GivesCall words call = (name : Text) × (rows : List Row)
     × (subcommand_of shamir_app words ≡ Some (name, rows)) × Gives name rows call.job
-    × AreFound (codes "master-secret") (codes "passphrase") rows call.given
-    × AreFound (codes "master-secret-file") (codes "passphrase-file") rows call.files
-    × (((bad : BadValues) × HasBadValues name rows bad) → ⊥)
+    × AreFound (codes "master-secret") (codes "passphrase") (text_at rows) call.given
+    × AreFound (codes "master-secret-file") (codes "passphrase-file") (text_at rows) call.files
+    × (((bad : BadValues) × HasBadValues name (text_at rows) bad) → ⊥)
 
 -- the words give a command with this fault in its values
 abbrev pub GivesBadValues : List Text → BadValues → Type 0
 GivesBadValues words bad = (name : Text) × (rows : List Row)
-    × (subcommand_of shamir_app words ≡ Some (name, rows)) × HasBadValues name rows bad
+    × (subcommand_of shamir_app words ≡ Some (name, rows)) × HasBadValues name (text_at rows) bad
 
 -- the numbers among a job's values are in their ranges
 abbrev pub IsInRange : Job → Type 0

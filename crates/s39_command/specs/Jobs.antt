@@ -1,17 +1,20 @@
--- Which job the words of each command give, if its values stand in the words.
-use Rattle.std.specs.Prelude.{◌≡◌, ◌≢◌, ℕ, false, List, [], ◌∷◌, codes, Option, Some, None, unwrap_or}
-use Rattle.std.specs.Borrow.{Bor}
-use Rattle.std.specs.Str.Parse.{digits_value, without_leading_plus}
-use Rattle.clap.specs.Lexer.{without_minus}
+-- Which call the words of a command give, by what is given to it.
+use Rattle.std.specs.Prelude.{◌≡◌, List, [], codes, Option, Some, None, unwrap_or}
 use Rattle.clap.specs.Words.{Text}
+use Rattle.s39_clap.specs.Arguments.{Given, given_for}
 use Rattle.s39_kdf.specs.declared.secret_form.SecretForm.{SecretForm}
-use Rattle.s39_kdf.specs.declared.secret_form.SecretForm.TheVariants.{Digits}
+use Rattle.s39_kdf.specs.declared.secret_form.SecretForm.TheVariants.{Digits, Fingerprint, Expected}
+use Rattle.s39_command.specs.declared.command.BadValues.{BadValues}
+use Rattle.s39_command.specs.declared.command.Call.{Call}
 use Rattle.s39_command.specs.declared.command.Job.{Job}
-use Rattle.s39_command.specs.declared.command.Job.TheVariants.{Create, Recover, Drill, Reissue, Resplit}
+use Rattle.s39_command.specs.declared.command.Job.TheVariants.{Show, Create, Recover, Drill, Status, Reissue, Repair, Resplit}
 use Rattle.s39_command.specs.declared.command.Texts.{Texts}
-use Rattle.s39_command.specs.Command.{GivesCall, text_in}
-use Rattle.s39_command.specs.FewerWords.{AreFewCreateWords, AreFewDrillWords, AreFewRecoverWords, AreReissueWords, AreResplitWords, or_default}
-use Rattle.s39_command.specs.Words.{AreExpectingDrillWords, AreExpectingRecoverWords, limit_of}
+use Rattle.s39_command.specs.Command.{AreFound, GivesBadValues, GivesCall, HasBadValues, flag_text, text_in}
+use Rattle.s39_command.specs.Words.{AreWords, number_in}
+
+-- a passphrase that isn't given is the empty one
+abbrev pub or_empty : Option Text → Text
+or_empty passphrase = unwrap_or passphrase []
 
 -- the words give this job and these texts of values, and name no file of a value
 abbrev pub GivesJob : List Text → Job → Texts → Type 0
@@ -21,57 +24,47 @@ GivesJob words job given = GivesCall words (record {
   files = record { secret = None; passphrase = None };
 })
 
--- the words give this job, and these are the texts of its secret and of its passphrase
-abbrev pub GivesJobWith : List Text → Job → Option Text → Option Text → Type 0
-GivesJobWith words job secret passphrase = (given : Texts) × GivesJob words job given
-    × (text_in given.secret ≡ secret) × (text_in given.passphrase ≡ passphrase)
+-- the text that is given for the argument of this name, or else this one
+abbrev pub text_or : List Given → Text → Text → Text
+text_or given name default = unwrap_or (given_for given name) default
 
--- the number that the text of an exponent writes
-abbrev pub exponent_of : Text → ℕ
-exponent_of text = digits_value 10 (without_leading_plus (without_minus text))
+-- the form in which a secret is asked for: its digits without the flag `--fingerprint`, and its fingerprint with it
+abbrev pub IsAskedIn : List Given → SecretForm → Type 0
+IsAskedIn given Digits = text_or given (codes "fingerprint") (codes "false") ≡ codes "false"
+IsAskedIn given Fingerprint = text_or given (codes "fingerprint") (codes "false") ≡ codes "true"
+IsAskedIn given (Expected noted) = ⊥
 
--- the words of a drill give a drill with these values
-abbrev pub FewDrillWordsGive : Type 0
-FewDrillWordsGive = (form : SecretForm) (passphrase after limit : Option Text) (words : List Text) → AreFewDrillWords form passphrase after limit words
-    → (lent : Option (Bor Text)) × (text_in lent ≡ after) × GivesJobWith words (Drill lent (limit_of (or_default limit)) form None) None passphrase
+-- what is given asks the command of this name for the job; without a limit it is 1000, and without an exponent 0
+abbrev pub AsksFor : Text → List Given → Job → Type 0
+AsksFor name given Show = name ≡ codes "show"
+AsksFor name given (Create plan exponent extendable) = (name ≡ codes "create")
+    × (given_for given (codes "plan") ≡ Some plan.now) × (exponent ≡ number_in (text_or given (codes "exponent") (codes "0")))
+    × (text_or given (codes "extendable") (codes "false") ≡ flag_text extendable)
+AsksFor name given (Recover form expected) =
+    (name ≡ codes "recover") × IsAskedIn given form × (text_in expected ≡ given_for given (codes "expect"))
+AsksFor name given (Drill after limit form expected) = (name ≡ codes "drill")
+    × (text_in after ≡ given_for given (codes "after")) × (limit ≡ number_in (text_or given (codes "limit") (codes "1000")))
+    × IsAskedIn given form × (text_in expected ≡ given_for given (codes "expect"))
+AsksFor name given Status = name ≡ codes "status"
+AsksFor name given (Reissue plan names) = (name ≡ codes "reissue")
+    × (given_for given (codes "plan") ≡ Some plan.now) × (given_for given (codes "names") ≡ Some names.now)
+AsksFor name given Repair = name ≡ codes "repair"
+AsksFor name given (Resplit plan random_file) = (name ≡ codes "resplit")
+    × (given_for given (codes "plan") ≡ Some plan.now) × (given_for given (codes "random-file") ≡ Some random_file.now)
 
--- and so do those that expect a fingerprint
-abbrev pub ExpectingDrillWordsGive : Type 0
-ExpectingDrillWordsGive = (expected passphrase after limit : Text) (words : List Text) → AreExpectingDrillWords expected passphrase after limit words
-    → (lent noted : Bor Text) × (lent.now ≡ after) × (noted.now ≡ expected)
-    × GivesJobWith words (Drill (Some lent) (limit_of limit) Digits (Some noted)) None (Some passphrase)
+-- it asks for the job with these values, and with these files of values
+pub record AsksForCall (name : Text) (given : List Given) (call : Call) : Type 0 where
+  pub job : AsksFor name given call.job
+  pub values : AreFound (codes "master-secret") (codes "passphrase") (given_for given) call.given
+  pub files : AreFound (codes "master-secret-file") (codes "passphrase-file") (given_for given) call.files
+  pub sound : ((bad : BadValues) × HasBadValues name (given_for given) bad) → ⊥
 
--- those of a recovery give a recovery
-abbrev pub FewRecoverWordsGive : Type 0
-FewRecoverWordsGive = (form : SecretForm) (passphrase : Option Text) (words : List Text) → AreFewRecoverWords form passphrase words
-    → GivesJobWith words (Recover form None) None passphrase
+-- the words of a command give the call that is asked for, whatever the order of its arguments is
+abbrev pub WordsGive : Type 0
+WordsGive = (name : Text) (given : List Given) (words : List Text) (call : Call) → AreWords name given words → AsksForCall name given call
+    → GivesCall words call
 
--- and so do those that expect a fingerprint
-abbrev pub ExpectingRecoverWordsGive : Type 0
-ExpectingRecoverWordsGive = (form : SecretForm) (expected passphrase : Text) (words : List Text) → AreExpectingRecoverWords form expected passphrase words
-    → (noted : Bor Text) × (noted.now ≡ expected) × GivesJobWith words (Recover form (Some noted)) None (Some passphrase)
-
--- those of a creation give a creation, without the extendable flag
-abbrev pub FewCreateWordsGive : Type 0
-FewCreateWordsGive = (plan secret : Text) (passphrase exponent : Option Text) (words : List Text) → AreFewCreateWords plan secret passphrase exponent words
-    → (lent : Bor Text) × (lent.now ≡ plan)
-    × GivesJobWith words (Create lent (exponent_of (unwrap_or exponent (codes "0"))) false) (Some secret) passphrase
-
--- those of a reissue give a reissue
-abbrev pub ReissueWordsGive : Type 0
-ReissueWordsGive = (plan names : Text) (words : List Text) → AreReissueWords plan names words
-    → (lent listed : Bor Text) × (lent.now ≡ plan) × (listed.now ≡ names) × GivesJobWith words (Reissue lent listed) None None
-
--- those of a split anew give one, unless the file has the name of standard input
-abbrev pub ResplitWordsGive : Type 0
-ResplitWordsGive = (plan file : Text) (words : List Text) → AreResplitWords plan file words → file ≢ codes "-"
-    → (lent named : Bor Text) × (lent.now ≡ plan) × (named.now ≡ file) × GivesJobWith words (Resplit lent named) None None
-
--- words of a creation with its plan first, and with the extendable flag
-abbrev pub plan_first : List Text
-plan_first = codes "shamir" ∷ codes "create" ∷ codes "2of3" ∷ codes "--extendable"
-    ∷ codes "--master-secret=00112233445566778899aabbccddeeff" ∷ []
-
--- words of a recovery with its flag last
-abbrev pub flag_last : List Text
-flag_last = codes "shamir" ∷ codes "recover" ∷ codes "--passphrase" ∷ codes "TREZOR" ∷ codes "--fingerprint" ∷ []
+-- or the fault of the values that are given
+abbrev pub WordsGiveFaults : Type 0
+WordsGiveFaults = (name : Text) (given : List Given) (words : List Text) (bad : BadValues) → AreWords name given words
+    → HasBadValues name (given_for given) bad → GivesBadValues words bad

@@ -2,7 +2,7 @@
 ghost use Rattle.std.specs.Prelude.{◌≡◌, ◌≢◌, ◌⊎◌, [], ◌∷◌, codes, None, Some, true, map, IfOk, IfErr, IfNone, IfSome, IsFalse, IsTrue, OnOk};
 ghost use Rattle.clap.specs.Words.{fault_of, first_of, found_of, kind_of, one_text, rows_of, takes};
 ghost use Rattle.s39_clap.specs.Found.{EntersOne};
-ghost use Rattle.s39_command.specs.Command.{bad_text, shamir_app, commands};
+ghost use Rattle.s39_command.specs.Command.{bad_text, shamir_app, commands, text_at};
 ghost use Rattle.s39_command.specs.Command.{Gives, GivesCall, IsInRange, AnswersKind, AnswersWords};
 ghost use Rattle.s39_command.specs.Command.{AnswersHelp, AreFound, HasBadValues, IsGiven, IsHelp, IsRefusal, SaysHelp};
 ghost use Rattle.s39_command.specs.declared.command.BadValues.{BadValues};
@@ -192,7 +192,7 @@ fn no_job(alloc: Global, error: &Error, count: usize) -> NoJob
 
 /// The texts that were found for these ids.
 fn texts_of<'a>(options: &ArgMatches<'a>, secret: &str, passphrase: &str) -> Texts<'a>
-    ensures { AreFound secret.now passphrase.now (rows_of (found_of options.now)) result }
+    ensures { AreFound secret.now passphrase.now (text_at (rows_of (found_of options.now))) result }
 {
     Texts {
         secret: options.get_str(secret),

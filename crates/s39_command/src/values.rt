@@ -1,7 +1,7 @@
 //! What is wrong with the values that the words of a command line give.
 ghost use Rattle.std.specs.Prelude.{◌≡◌, ◌≢◌, None, Some, IfNone, IfSome, IsFalse, IsTrue};
 ghost use Rattle.clap.specs.Words.{first_of, found_of, rows_of};
-ghost use Rattle.s39_command.specs.Command.{HasBadValues, IsGiven};
+ghost use Rattle.s39_command.specs.Command.{HasBadValues, IsGiven, text_at};
 ghost use Rattle.s39_command.specs.declared.command.BadValues.{BadValues};
 
 use crate::command::BadValues;
@@ -9,7 +9,7 @@ use clap::ArgMatches;
 
 /// Whether a text was found for this id.
 fn is_given(options: &ArgMatches, id: &str) -> bool
-    ensures given { IsTrue result → IsGiven id.now (rows_of (found_of options.now)) }
+    ensures given { IsTrue result → IsGiven id.now (text_at (rows_of (found_of options.now))) }
     ensures missing { IsFalse result → first_of id.now (rows_of (found_of options.now)) ≡ None }
 {
     options.get_str(id).is_some()
@@ -28,9 +28,9 @@ fn is_said(options: &ArgMatches, id: &str, wanted: &str) -> bool
 
 /// What is first wrong with the values that were found for the command with this name.
 pub(crate) fn bad_values(name: &str, options: &ArgMatches) -> Option<BadValues>
-    ensures bad { IfSome result (HasBadValues name.now (rows_of (found_of options.now))) }
+    ensures bad { IfSome result (HasBadValues name.now (text_at (rows_of (found_of options.now)))) }
     ensures sound { IfNone result
-        (((bad : BadValues) × HasBadValues name.now (rows_of (found_of options.now)) bad) → ⊥) }
+        (((bad : BadValues) × HasBadValues name.now (text_at (rows_of (found_of options.now))) bad) → ⊥) }
 {
     let has_secret = is_given(options, "master-secret");
     let has_secret_file = is_given(options, "master-secret-file");

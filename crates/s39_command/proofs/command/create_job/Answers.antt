@@ -1,4 +1,4 @@
-use Rattle.std.proofs.Common.{ap, codes, is_some, refl, subst, ◌<◌, ◌≡◌}
+use Rattle.std.proofs.Common.{ap, arith, codes, is_some, refl, subst, ◌<◌, ◌≡◌}
 use Rattle.clap.specs.Words.{found_of, rows_of}
 use Rattle.s39_clap.specs.Found.{HasNumber}
 use Rattle.s39_command.proofs.Jobs.{exponent_there, extendable_there, found_of_rows, plan_there}
@@ -17,7 +17,7 @@ returns-clause-gives c =
     let same : exponent.0 ≡ c.unwrap-2.result = cc in (
       refl,
       found_of_rows f (codes "plan") c.get_str.result c.unwrap.result c.get_str.ensures c.unwrap.ensures,
-      subst (HasNumber (codes "exponent") (rows_of f)) same exponent.3,
+      subst (HasNumber (codes "exponent") (rows_of f)) same exponent.4,
       extendable_there f c.get_flag.result c.requires c.get_flag.ensures.value c.get_flag.ensures.other,
     )
 
@@ -25,4 +25,4 @@ pub returns-clause-range : goal.returns-clause-range
 returns-clause-range c =
     let exponent = exponent_there (found_of c.args.options.now) c.get_one.result c.requires c.get_one.ensures.value in
     let same : exponent.0 ≡ c.unwrap-2.result = cc in
-    subst (λ n. n < 16) same exponent.2
+    subst (λ n. n < 16) same (omega (arith, exponent.3))

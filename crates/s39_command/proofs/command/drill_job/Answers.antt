@@ -15,7 +15,7 @@ returns-clause-gives c =
     let same : limit.0 ≡ c.unwrap.result = cc in (
       refl,
       c.get_str.ensures ∙ first_value-rows f (codes "after"),
-      subst (HasNumber (codes "limit") (rows_of f)) same limit.3,
+      subst (HasNumber (codes "limit") (rows_of f)) same limit.4,
       drill_form_there f c.form_of.result c.requires c.form_of.ensures.said c.form_of.ensures.unsaid,
       c.get_str-expected.ensures ∙ first_value-rows f (codes "expect"),
     )
