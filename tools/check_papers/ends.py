@@ -158,6 +158,41 @@ def check_stopped_drill():
         owner.finish(say("next.again"))
 
 
+def own_secrets(count, exponent):
+    """Returns papers, each of which is a quorum with a secret of its own."""
+    fields = {**SLOW, "exponent": exponent, "group_count": count}
+    return [plain.mnemonic({**fields, "group": group, "value": bytes([group]) * 16}) for group in range(count)]
+
+
+def check_slow_drill():
+    """A slow drill shows how many quorums were tried, and how far the next one is. If it is stopped, what was tried counts."""
+    with started("check") as owner:
+        owner.collect(own_secrets(12, 8))
+        owner.passphrase("", "")
+        for tried in (0, 1, 2):
+            shown = [f"{say('drill.tried', tried=tried, total=12)} {say('drill.next', rounds=rounds)}" for rounds in (1, 2, 3)]
+            owner.wait_shown(lambda: any(it in owner.screen() for it in shown), f"it isn't shown how far the quorum after {tried} is")
+        stop(owner)
+        owner.wait(say("next.again"))
+        owner.expect(say("check.done.stopped"))
+        # While the owner answers, one more may have been tried.
+        tried = 3 if say("drill.tried", tried=3, total=12) in owner.screen() else 2
+        owner.expect(say("drill.tried", tried=tried, total=12))
+        owner.expect(say("verdict.several", quorums=f"{tried} quorums", secrets=f"{tried} different secrets"))
+        owner.finish(say("next.again"))
+
+
+def check_many_secrets():
+    """Of many fingerprints, those that aren't named are counted."""
+    with started("check") as owner:
+        owner.collect(own_secrets(12, 0))
+        owner.passphrase("", "")
+        owner.wait(say("next.papers"))
+        owner.expect(say("verdict.several", quorums="12 quorums", secrets="12 different secrets"))
+        owner.expect(say("verdict.gave.others", fingerprints="4 more fingerprints", quorums="4 quorums"))
+        end_by_keys(owner)
+
+
 def check_unproved():
     """A new backup whose drill was stopped is no finished one, and the program says so at its end."""
     # The drill takes ten times as long as the making.
@@ -384,6 +419,8 @@ CHECKS = [
     check_signals,
     check_work,
     check_stopped_drill,
+    check_slow_drill,
+    check_many_secrets,
     check_unproved,
     check_two_signals,
     check_stopped,

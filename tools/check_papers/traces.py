@@ -136,14 +136,18 @@ def check_memory_of_change(papers, noted, secret):
 
 
 def check_memory_of_check(papers, noted, secret):
-    with started("check") as owner:
-        owner.collect(papers)
-        owner.passphrase(OWN_PASSPHRASE, noted)
-        owner.wait(say("next.good"))
-        left = look_for(owner, {"the passphrase": OWN_PASSPHRASE.encode(), "the digits of the secret": secret.encode()})
-        if left:
-            raise Failed(f"after a check, the memory of the program still has {', '.join(left)}")
-        owner.finish(say("next.good"))
+    """After a drill, papers are still there, and no secret, also where quorums are tried one by one."""
+    slow = [changed(line, exponent=5) for line in papers]
+    for lines, fingerprint, digits in [(papers, noted, secret), (slow, fingerprint_of(slow, OWN_PASSPHRASE), secret_of(slow, OWN_PASSPHRASE))]:
+        with started("check") as owner:
+            owner.collect(lines)
+            owner.passphrase(OWN_PASSPHRASE, fingerprint)
+            owner.wait(say("next.good"))
+            texts = {"the passphrase": OWN_PASSPHRASE.encode(), "the digits of the secret": digits.encode(), "the secret": bytes.fromhex(digits)}
+            left = look_for(owner, texts)
+            if left:
+                raise Failed(f"after a check, the memory of the program still has {', '.join(left)}")
+            owner.finish(say("next.good"))
 
 
 def check_forbidden():

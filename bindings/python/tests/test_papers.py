@@ -13,7 +13,7 @@ import unittest.mock
 sys.path.insert(0, str(pathlib.Path(__file__).resolve().parent.parent))
 sys.path.insert(0, str(pathlib.Path(__file__).resolve().parent))
 
-from test_shamir import FIVE, ONE, TWO  # noqa: E402
+from test_shamir import FIVE, MISMATCHED, MISMATCHED_GROUPS, ONE, TWO  # noqa: E402
 
 if sys.version_info < (3, 10):
     raise unittest.SkipTest("shamir.papers needs Python 3.10")
@@ -31,6 +31,7 @@ from shamir.papers.plan import plain_plan, plan_of, said_dangers, said_plan, sai
 from shamir.papers.quorums import Tried, quorum_with, suspects  # noqa: E402
 from shamir.papers.spelling import Misplaced, continued, has_idle_number, nearest, numbers_of, parts_of, placed, said_empty, seems_bip39  # noqa: E402
 from shamir.papers.texts import OWN, TABLE, TASKS, _page, say  # noqa: E402
+from shamir.papers.trial import Trial  # noqa: E402
 
 # The first vector whose paper has 33 words.
 LONG = "theory painting academic academic armed sweater year military elder discuss acne wildlife boring employer fused large satoshi bundle carbon diagnose anatomy hamster leaves tracks paces beyond phantom capital marvel lips brave detect luck"
@@ -565,6 +566,45 @@ class VerdictTests(unittest.TestCase):
         right, wrong = [outcome("0.0+0.1", "a")], [outcome("0.0+0.2", "b"), outcome("0.1+0.2", "b")]
         self.assertEqual(suspects(right, wrong), ["0.2"])
         self.assertEqual(suspects(right, []), [])
+
+
+class TrialTests(unittest.TestCase):
+    def outcomes(self, lines, expect, is_slow, is_whole=True):
+        trial = Trial({paper_of(line).name: line for line in lines}, bytearray(b"TREZOR"), expect)
+        trial.run(is_whole, is_slow)
+        return trial.outcomes
+
+    def test_as_the_library_lists_them(self):
+        """Quorum by quorum, each gives what a drill of the library gives, in its order."""
+        plans = ["2of3", "3of5", "1of1", "2/3of5,1of1", "3/2of3,2of3,1of1,2of2", "1/1of1,2of3", "2/2of4,3of4,1of1"]
+        made = [shamir.create(plan, bytes(16), exponent=0) for plan in plans]
+        for lines in [FIVE, TWO, MISMATCHED, MISMATCHED_GROUPS, FIVE[1:], *made, *(lines[1:] for lines in made if len(lines) > 3)]:
+            for expect in ("", "df41d8fe"):
+                listed = shamir.drill(lines, passphrase="TREZOR", fingerprints=not expect, expect=expect or None)
+                wanted = [Tried(tuple(it.names.split("+")), it.fingerprint, it.mismatch, it.expected) for it in listed]
+                self.assertEqual(len(wanted), shamir.quorums(lines))
+                for is_slow in (False, True):
+                    self.assertEqual(self.outcomes(lines, expect, is_slow), wanted)
+
+    def test_each_secret_is_decrypted_once(self):
+        with unittest.mock.patch.object(shamir, "decrypt_rounds", side_effect=shamir.decrypt_rounds) as decrypted:
+            self.assertEqual(len(self.outcomes(FIVE, "df41d8fe", True)), 7)
+        decrypted.assert_called_once()
+
+    def test_too_many(self):
+        """Of too many quorums, the first ones are tried, and one with each paper. Both ways try the same."""
+        lines = shamir.create("16/" + ",".join(["2of3"] * 16), bytes(16), exponent=0)
+        with unittest.mock.patch("shamir.papers.trial.TRIED_FIRST", 30):
+            both = [self.outcomes(lines, "", is_slow, False) for is_slow in (False, True)]
+        self.assertEqual(both[0], both[1])
+        self.assertEqual({name for it in both[0] for name in it.names}, {paper_of(line).name for line in lines})
+
+    def test_stopped(self):
+        """A trial that is stopped keeps what was tried, and ends after the round that goes on."""
+        trial = Trial({paper_of(line).name: line for line in FIVE}, bytearray(), "")
+        trial.stop()
+        trial.run(True, True)
+        self.assertEqual((trial.outcomes, trial.rounds), ([], 0))
 
 
 class SafetyTests(unittest.TestCase):

@@ -3,14 +3,13 @@ from __future__ import annotations
 
 import ctypes
 import dataclasses
-import threading
 from dataclasses import dataclass, field
-from typing import Dict, Iterator, List, Optional, Sequence, Tuple
+from typing import Dict, List, Optional, Sequence, Tuple
 
 import shamir
 from shamir.papers.line import wipe
-from shamir.papers.quorums import Tried
 from shamir.papers.spelling import read
+from shamir.papers.trial import Trial
 
 # From so many words on, what was typed is a paper that was begun.
 BEGUN_LEAST = 10
@@ -257,23 +256,9 @@ class Desk:
     def recover(self) -> bytearray:
         return bytearray(shamir.recover(self.lines, passphrase=self.passphrase))
 
-    def _outcomes(self, lines: List[str], expect: str) -> Iterator[Tried]:
-        """Yields what each quorum of lines gives: whether its secret has the fingerprint `expect`, or its fingerprint if that is
-        empty."""
-        for it in shamir.drill(lines, passphrase=self.passphrase, fingerprints=not expect, expect=expect or None):
-            yield Tried(tuple(it.names.split("+")), it.fingerprint, it.mismatch, it.expected)
-
-    def try_all(self, tried: List[Tried], expect: str, stopped: threading.Event, limit: Optional[int] = None) -> None:
-        """Tries every quorum, or the first `limit`, and adds what they give to a list, until it is stopped."""
-        for outcome in self._outcomes(self.lines, expect):
-            tried.append(outcome)
-            if len(tried) == limit or stopped.is_set():
-                return
-
-    def try_one(self, names: Sequence[str], expect: str) -> Tried:
-        """Tries the one quorum that these papers are."""
-        [outcome] = self._outcomes([paper.line for paper in self.papers if paper.name in names], expect)
-        return outcome
+    def trial(self, expect: str) -> Trial:
+        """Returns a trial of the papers' quorums. `expect` is the fingerprint that is expected, or empty."""
+        return Trial({paper.name: paper.line for paper in self.papers}, self.passphrase, expect)
 
 
 def fit(one: Paper, other: Paper) -> bool:

@@ -1,17 +1,16 @@
 """The drill: each quorum of the papers that were typed, and what they say together."""
 from __future__ import annotations
 
-import functools
-import threading
 import time
 from dataclasses import dataclass, field
 from typing import Callable, Iterable, List, Sequence, Tuple
 
 import shamir
 from shamir.papers.desk import Desk, Paper, derivation_seconds
-from shamir.papers.quorums import COUNTED_MOST, TRIED_FIRST, TRIED_WHOLE, Tried, fingerprints, gives, quorum_with, suspects
+from shamir.papers.quorums import COUNTED_MOST, TRIED_FIRST, TRIED_WHOLE, Tried, fingerprints, gives, suspects
 from shamir.papers.screen import Screen, Stopped
 from shamir.papers.texts import counted, one_or_many, said_time, say
+from shamir.papers.trial import SLOW_SECONDS, Trial
 
 # From this exponent on, a task says how long it takes.
 LONG_EXPONENT = 5
@@ -57,11 +56,16 @@ def remaining(seconds: float) -> Callable[[], str]:
     return said
 
 
+def recovery_seconds(paper: Paper) -> float:
+    """Returns how long one recovery takes here, by an estimate."""
+    return derivation_seconds(measured(), paper.exponent, paper.secret_bytes)
+
+
 def warned_time(screen: Screen, paper: Paper) -> Callable[[], str]:
     """Says how long one recovery takes, if that is long. Returns a call that says how much of one is left, if it begins now."""
     if paper.exponent < LONG_EXPONENT:
         return lambda: ""
-    seconds = derivation_seconds(measured(), paper.exponent, paper.secret_bytes)
+    seconds = recovery_seconds(paper)
     screen.tell(say("time.long", exponent=paper.exponent, time=said_time(seconds)))
     return remaining(seconds)
 
@@ -72,16 +76,24 @@ def run_drill(screen: Screen, desk: Desk, noted: str, is_own: bool = False, is_n
     `noted` is the expected fingerprint, or empty. `is_own` says that it is that of the secret that was just backed up. `is_new` says that
     the papers take the place of others.
     """
-    total, tried = desk.quorums(), list[Tried]()
+    total, trial = desk.quorums(), desk.trial(noted)
     screen.tell(say("drill.what"))
     screen.tell(said_quorums(total))
     warned_time(screen, desk.papers[0])
-    is_stopped = False
+    is_slow, is_stopped = recovery_seconds(desk.papers[0]) > SLOW_SECONDS, False
     try:
-        _try(screen, desk, total, tried, noted)
+        screen.work(lambda: trial.run(total <= TRIED_WHOLE, is_slow), lambda: said_tried(trial, total), is_stoppable=True)
     except Stopped:
         is_stopped = True
-    return verdict_of(list(tried), total, noted, is_own, is_stopped, bool(desk.passphrase), is_new)
+    finally:
+        trial.stop()
+    return verdict_of([*trial.outcomes], total, noted, is_own, is_stopped, bool(desk.passphrase), is_new)
+
+
+def said_tried(trial: Trial, total: int) -> str:
+    """Says how many quorums were tried, and how far the next one is."""
+    told = say("drill.tried", tried=f"{len(trial.outcomes):,}", total=said_total(total))
+    return f"{told} {say('drill.next', rounds=trial.rounds)}" if trial.rounds else told
 
 
 def said_quorums(total: int) -> str:
@@ -92,26 +104,6 @@ def said_quorums(total: int) -> str:
 def said_total(total: int) -> str:
     """Says how many quorums there are, up to the number up to which the library counts."""
     return say("number.least", number=f"{total:,}") if total == COUNTED_MOST else f"{total:,}"
-
-
-def _try(screen: Screen, desk: Desk, total: int, tried: List[Tried], noted: str) -> None:
-    """Tries every quorum, or, if there are too many, the first ones, and one with each paper that none of these has."""
-    status, is_whole = desk.status(), total <= TRIED_WHOLE
-
-    def progress() -> str:
-        return say("drill.tried", tried=f"{len(tried):,}", total=said_total(total))
-
-    stopped = threading.Event()
-    try:
-        screen.work(lambda: desk.try_all(tried, noted, stopped, None if is_whole else TRIED_FIRST), progress, is_stoppable=True)
-    finally:
-        stopped.set()
-    known = {it.names for it in tried}
-    for name in [name for group in status.groups for name in group.names if not is_whole]:
-        names = quorum_with(status, name)
-        if names is not None and names not in known:
-            known.add(names)
-            tried.append(screen.work(functools.partial(desk.try_one, names, noted), progress, is_stoppable=True))
 
 
 def verdict_of(
@@ -188,9 +180,12 @@ def _named(wrong: Sequence[Tried]) -> str:
 
 
 def _gave(tried: Sequence[Tried], found: List[Tuple[str, int]]) -> List[str]:
-    """Says for the first fingerprints how many quorums give each, and one that does."""
+    """Says for the first fingerprints how many quorums give each, and one that does, and counts the others."""
     said = []
     for fingerprint, times in found[:NAMED_MAX]:
         names = next("+".join(it.names) for it in tried if gives(it, fingerprint))
         said.append(say("verdict.gave", fingerprint=fingerprint, quorums=counted(times, "quorum"), names=names))
+    others = [times for _, times in found[NAMED_MAX:]]
+    if others:
+        said.append(say("verdict.gave.others", fingerprints=counted(len(others), "fingerprint"), quorums=counted(sum(others), "quorum")))
     return said

@@ -1,9 +1,10 @@
 """Which quorums are tried if there are too many, and what a drill's outcomes say together."""
 from __future__ import annotations
 
+import itertools
 from collections import Counter
 from dataclasses import dataclass
-from typing import List, Optional, Sequence, Tuple
+from typing import Iterator, List, Optional, Sequence, Tuple
 
 import shamir
 
@@ -32,6 +33,21 @@ def gives(tried: Tried, fingerprint: str) -> bool:
 
 def complete(status: shamir.Status) -> List[shamir.GroupStatus]:
     return [group for group in status.groups if len(group.names) >= group.threshold]
+
+
+def quorums_of(status: shamir.Status) -> Iterator[Tuple[str, ...]]:
+    """Yields the names of each quorum, in the order in which the library lists them. It counts them too, and a drill is whole only if as
+    many were tried."""
+
+    def chosen(groups: Sequence[shamir.GroupStatus], needed: int) -> Iterator[Tuple[str, ...]]:
+        if not needed:
+            yield ()
+        for at, group in enumerate(groups[: len(groups) - needed + 1] if needed else ()):
+            for names in itertools.combinations(group.names, group.threshold):
+                for others in chosen(groups[at + 1 :], needed - 1):
+                    yield (*names, *others)
+
+    return chosen(complete(status), status.required)
 
 
 def quorum_with(status: shamir.Status, name: str) -> Optional[Tuple[str, ...]]:
