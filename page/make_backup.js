@@ -1,5 +1,7 @@
-// The task 'Make a backup': a plan, a wallet, a secret, a passphrase, the papers one by one, typed back, the fingerprint, and the drill.
+// The task 'Make a backup': what the wallet holds, a plan, a wallet, a secret, a passphrase, the papers one by one, typed back, the
+// fingerprint, and the drill.
 import { bytesOf, typedDigits, zero } from "./bytes.js";
+import { changePlan } from "./change_plan.js";
 import { Declined, Stopped } from "./client.js";
 import { THROWS_LEAST } from "./dice.js";
 import { BACK, choice, element, hidden, labelled, paragraph } from "./dom.js";
@@ -20,6 +22,7 @@ import { askWallet } from "./wallet.js";
 /** @typedef {import("./plan.js").Plan} Plan */
 /** @typedef {import("./desk.js").Kind} Kind */
 /** @typedef {"new" | "own"} Source */
+/** @typedef {Source | "papers" | "words"} Has what the owner has: a new wallet, the digits of a secret, papers, or words of BIP-39 */
 /** @typedef {{bytes: number, digits: Uint8Array | null, noted: string}} Secret */
 /** @typedef {{secret: Secret, dice: Uint8Array, passphrase: Uint8Array}} Typed */
 /** @typedef {import("./wallet.js").Asked & {source: Source, noted: string | null, exponent: number, hasThrows: boolean}} Chosen what was chosen and isn't secret. `hasThrows` says whether throws of a die were typed */
@@ -38,28 +41,68 @@ const BYTES = { 20: 16, 33: 32 };
 const USUAL = { source: "new", noted: null, exponent: 1, hasThrows: false, wallet: null, words: 20 };
 
 /**
- * Makes a backup.
+ * Makes a backup, unless the wallet has one already.
  *
  * @param {Desk} desk
  */
 export async function makeBackup(desk) {
-  setSteps(8);
-  const made = await planAndCreate(desk);
-  if (made === null) return;
-  const { plan, isOwn, words } = made;
-  await writeAll(desk, plan, words, { title: say("make.forms"), unfinished: "clear.unfinished", step: 4 });
-  await noteAndEnd(desk, plan, isOwn);
+  const [planned, chosen] = [new PlanChoice(), { ...USUAL }];
+  /** @type {Has | null} */
+  let has = null;
+  for (;;) {
+    setSteps(9);
+    has = await askHas(has);
+    if (has === null) return;
+    if (has === "papers") {
+      if ((await changePlan(desk)) === "end") return;
+      continue;
+    }
+    if (has === "words" && !(await agreeToNew())) continue;
+    chosen.source = has === "own" ? "own" : "new";
+    const made = await planAndCreate(desk, planned, chosen);
+    if (made === null) continue;
+    const { plan, isOwn, words } = made;
+    await writeAll(desk, plan, words, { title: say("make.forms"), unfinished: "clear.unfinished", step: 5 });
+    await noteAndEnd(desk, plan, isOwn);
+    return;
+  }
 }
 
 /**
- * Asks for the plan, the wallet and the secret until the papers are made. Returns null if the owner goes back to the first screen.
+ * Asks what the owner has: papers of a new secret are no backup of a wallet that holds money. Returns null if the owner goes back.
+ *
+ * @param {Has | null} first what was said before, or null
+ * @returns {Promise<Has | null>}
+ */
+async function askHas(first) {
+  let has = first;
+  const options = /** @type {const} */ (["new", "papers", "own", "words"]).map((key) => ({ key, label: say(`has.${key}`), hint: say(`has.${key}.hint`) }));
+  const answer = await ask(say("home.make"), [choice(say("has.legend"), options, first, (key) => (has = key))], [
+    { key: "go", label: say("continue"), kind: "primary", take: () => (has === null ? say("has.missing") : null) },
+    { key: "back", label: say("back"), kind: BACK },
+  ]);
+  return answer === "go" ? has : null;
+}
+
+/** Says that words of BIP-39 can't become papers. Returns whether the owner wants papers of a new wallet. */
+async function agreeToNew() {
+  const answer = await ask(say("has.words.title"), [paragraph(say("has.words.what"), "bad")], [
+    { key: "new", label: say("has.words.new") },
+    { key: "back", label: say("back"), kind: BACK },
+  ]);
+  return answer === "new";
+}
+
+/**
+ * Asks for the plan, the wallet and the secret until the papers are made. Returns null if the owner goes back from the plan.
  *
  * @param {Desk} desk
+ * @param {PlanChoice} planned
+ * @param {Chosen} chosen
  */
-async function planAndCreate(desk) {
-  const [planned, chosen] = [new PlanChoice(), { ...USUAL }];
-  while (await askPlan(desk, planned, { title: say("make.plan"), step: 1 })) {
-    while (await askWallet(chosen, { title: say("make.wallet"), step: 2, asksWords: true })) {
+async function planAndCreate(desk, planned, chosen) {
+  while (await askPlan(desk, planned, { title: say("make.plan"), step: 2 })) {
+    while (await askWallet(chosen, { title: say("make.wallet"), step: 3, asksWords: true })) {
       const words = await create(desk, planned.plan, chosen);
       if (words !== null) return { plan: planned.plan, isOwn: chosen.source === "own", words };
     }
@@ -85,14 +128,9 @@ class SecretFields {
     this.source = source;
     this.#noted = notedFields(desk, noted);
     this.#bytes = BYTES[words];
-    const values = { words, bytes: this.#bytes };
-    const options = /** @type {const} */ (["new", "own"]).map((key) => ({ key, label: say(`secret.${key}`), hint: say(`secret.${key}.hint`, values) }));
-    const own = element("div", { hidden: source !== "own" }, this.#digits.box, this.#again.box, paragraph(say("secret.noted"), "hint"), this.#noted.box);
-    const pick = (/** @type {Source} */ key) => {
-      this.source = key;
-      own.hidden = key !== "own";
-    };
-    this.element = element("div", {}, choice(say("secret.legend"), options, source, pick), own);
+    const drawn = () => [paragraph(say("secret.new", { words, bytes: this.#bytes }))];
+    const own = () => [this.#digits.box, this.#again.box, paragraph(say("secret.noted"), "hint"), this.#noted.box];
+    this.element = element("div", {}, ...(source === "own" ? own() : drawn()));
   }
 
   /** Returns what is missing, or null. */
@@ -211,14 +249,13 @@ class MoreFields {
  */
 async function create(desk, plan, chosen) {
   let fault = "";
-  setStep(3);
+  setStep(4);
   for (;;) {
     const secret = new SecretFields(desk, chosen);
     const [more, passphrase] = [new MoreFields(desk, chosen, secret), passphraseFields(desk, true)];
     /** @type {Typed | null} */
     let typed = null;
     const keep = async () => {
-      chosen.source = secret.source;
       chosen.hasThrows ||= more.hasThrows;
       if (secret.source === "own") chosen.noted = (await secret.noted()) ?? chosen.noted;
       if (more.isExponent) chosen.exponent = more.exponent;
@@ -287,6 +324,7 @@ async function noteAndEnd(desk, plan, isOwn) {
   const keep = `${say(planNames(plan).length === 1 ? "make.keep.one" : "make.keep")} ${say(hasPassphrase ? "make.with" : "make.without")}`;
   const old = isOwn ? paragraph(say("make.own")) : null;
   const done = [
+    isOwn ? null : paragraph(say("make.empty"), "note"),
     toldVerdict(verdict),
     paragraph(notedPlan(plan), "sentence"),
     paragraph(say("make.restore"), "note"),

@@ -40,7 +40,7 @@ export async function noteAndDrill(desk, made) {
  * @returns {Promise<string | null>}
  */
 async function letNote({ fingerprint, isOwn, hasPassphrase }) {
-  setStep(6);
+  setStep(7);
   const where = paragraph(say(hasPassphrase ? "noted.apart" : "noted.papers"));
   const shown = element("p", { class: "fingerprint" }, fingerprint);
   const next = paragraph(say(hasPassphrase ? "proof.next.both" : "proof.next"), "hint");
@@ -60,7 +60,7 @@ async function letNote({ fingerprint, isOwn, hasPassphrase }) {
  * @param {string | null} noted
  */
 function askNotes(desk, { fingerprint, isOwn }, fault, noted) {
-  setStep(7);
+  setStep(8);
   const refuse = (/** @type {string} */ given) => (given !== "" && given !== fingerprint ? say("proof.other") : null);
   return askPassphrase(desk, { title: say("proof.title"), why: say("proof.why"), back: say("proof.show"), mayLack: isOwn, fault, noted, refuse });
 }
@@ -75,7 +75,7 @@ function askNotes(desk, { fingerprint, isOwn }, fault, noted) {
  * @returns {Promise<{answer: Verdict | "again" | null, refused: string}>}
  */
 async function drillWith(desk, made, noted) {
-  setStep(8);
+  setStep(9);
   const [status, kinds, title] = [await desk.ask("status"), await desk.ask("kinds"), say("make.drill")];
   if (!(await askToDrill(desk, [toldCount(status)], kinds[0], { title, hasBack: true }))) return { answer: "again", refused: "" };
   const verdict = await runDrill(desk, status, { title, noted: noted || made.fingerprint, isOwn: noted === "" });

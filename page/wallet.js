@@ -6,14 +6,14 @@ import { say } from "./say.js";
 import { ask, setStep } from "./screen.js";
 
 /** @typedef {"flag" | "older" | "unknown"} Wallet a wallet that knows the extendable flag, an older one, or one of which the owner can't say */
-/** @typedef {{wallet: Wallet | null, words: number}} Asked the wallet, and how many words each paper of a new secret has */
+/** @typedef {{wallet: Wallet | null, words: number}} Asked the wallet, and how many words each paper has */
 
 /**
  * Asks which wallet will read the papers. What was chosen is kept, also on the way back. Returns whether one is chosen; if not, the owner
  * goes back.
  *
  * @param {Asked} chosen
- * @param {{title: string, step: number, asksWords?: boolean}} what `asksWords` says that there may be a new secret
+ * @param {{title: string, step: number, asksWords?: boolean}} what `asksWords` says that papers of a secret are made
  */
 export async function askWallet(chosen, { title, step, asksWords = false }) {
   setStep(step);
@@ -22,7 +22,7 @@ export async function askWallet(chosen, { title, step, asksWords = false }) {
   const asked = [choice(say("wallet.legend"), wallets, chosen.wallet, (key) => (chosen.wallet = key)), paragraph(say("wallet.what"), "hint")];
   if (asksWords) {
     const counts = USUAL_WORDS.map((count) => ({ key: String(count), label: say("entry.words", { count }), hint: say(`wallet.words.${count}.hint`) }));
-    asked.push(choice(say("wallet.words"), counts, String(chosen.words), (key) => (chosen.words = Number(key))), paragraph(say("wallet.words.own"), "hint"));
+    asked.push(choice(say("wallet.words"), counts, String(chosen.words), (key) => (chosen.words = Number(key))));
   }
   const missing = () => (chosen.wallet === null ? say("wallet.missing") : null);
   const answer = await ask(title, asked, [

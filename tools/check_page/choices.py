@@ -5,7 +5,7 @@ from browsers import Failed
 from refusals import said
 from samples import BAD_CHECKSUM, BIP39, EXCHANGED, FINGERPRINT, LONG, PASSPHRASE, SECRET, SOUND_PAPER, THREE_GROUPS, TWO, changed, fingerprint_of, name_of, said_kind
 from samples import with_words
-from tasks import answer_passphrase, begin, check_small, choose_wallet, clear, create, drill, end, paste, read_paper, type_digits, type_paper, type_passphrase, write_down
+from tasks import answer_passphrase, begin, check_small, choose_has, choose_wallet, clear, create, drill, end, paste, read_paper, type_digits, type_paper, type_passphrase, write_down
 from texts import counted, say
 
 import plain
@@ -55,13 +55,47 @@ def check_wallet(page, see):
     page.push(say("back"), to=say("make.plan"))
     for wallet in ("unknown", "older", "flag"):
         choose_wallet(page, wallet, 33)
-        page.wait_text(say("secret.new.hint", bytes=32, words=33), say("passphrase.new"))
+        page.wait_text(say("secret.new", bytes=32, words=33), say("passphrase.new"))
         page.push(say("back"), to=say("make.wallet"))
         for chosen in (say(f"wallet.{wallet}"), say("entry.words", count=33)):
             if not page.is_chosen(chosen):
                 raise Failed(f"on the way back, another wallet or number of words is chosen than {chosen!r}")
         page.push(say("back"), to=say("make.plan"))
-    page.push(say("back"), to=say("home.title"))
+    for title in ("home.make", "home.title"):
+        page.push(say("back"), to=say(title))
+
+
+def check_has(page, see):
+    """Whether there is money in the wallet must be said first. Papers of it lead to 'Change the plan', its digits to their fields, and 12 or 24
+    words can't become papers. What was said stays on the way back."""
+    begin(page, "make", None)
+    page.wait_text(say("has.legend"), say("step", at=1, count=9))
+    page.push(say("continue"))
+    page.wait_text(say("has.missing"))
+    see("whether there is money in the wallet")
+    choose_has(page, "papers", "change.title")
+    page.wait_text(say("change.intro"))
+    page.push(say("back"), to=say("home.make"))
+    if not page.is_chosen(say("has.papers")):
+        raise Failed("on the way back, it is forgotten that the owner has papers")
+    choose_has(page, "words", "has.words.title")
+    if page.evaluate("document.querySelector('#main > .bad').innerText") != say("has.words.what"):
+        raise Failed("that 12 or 24 words can't become papers isn't said in red")
+    see("12 or 24 words")
+    page.push(say("back"), to=say("home.make"))
+    choose_has(page, "own")
+    choose_wallet(page)
+    page.node("textbox", say("secret.digits"))
+    page.lacks(say("secret.new", bytes=16, words=20), "a new secret is drawn for a wallet that holds money")
+    for title in ("make.wallet", "make.plan", "home.make"):
+        page.push(say("back"), to=say(title))
+    choose_has(page, "words", "has.words.title")
+    page.push(say("has.words.new"), to=say("make.plan"))
+    choose_wallet(page)
+    page.wait_text(say("secret.new", bytes=16, words=20))
+    if page.located("textbox", say("secret.digits")):
+        raise Failed("the digits of 12 or 24 words are asked for")
+    clear(page)
 
 
 # In place of the random bytes of the worker, these are drawn: 1, 8, 15, and so on. Before they are given, a script may change them.
@@ -147,7 +181,7 @@ def check_dangers(page, see):
 
 def make_own(page):
     """Makes a backup of an own secret, up to its fingerprint."""
-    begin(page, "make")
+    begin(page, "make", "own")
     choose_wallet(page)
     type_digits(page, SECRET, SECRET, FINGERPRINT)
     type_passphrase(page, PASSPHRASE, "passphrase.label", "passphrase.again")
@@ -398,4 +432,4 @@ def check_help(page, see):
     clear(page)
 
 
-CHECKS = [check_help, check_phone, check_low, check_wallet, check_dice, check_dangers, check_notes, check_looks_of_results, check_what]
+CHECKS = [check_help, check_phone, check_low, check_has, check_wallet, check_dice, check_dangers, check_notes, check_looks_of_results, check_what]

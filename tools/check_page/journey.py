@@ -48,7 +48,7 @@ def check_seen(page, task, count, is_most=False):
 
 def check_steps(page, see):
     """Each task from its start to its end."""
-    steps_of = {"make": 8, "check": 3, "recover": 3, "replace": 8, "change": 8, "damaged": 6}
+    steps_of = {"make": 9, "check": 3, "recover": 3, "replace": 8, "change": 8, "damaged": 6}
     for (task, count), go in zip(steps_of.items(), [make, check, recover, replace, change, repair]):
         page.evaluate(WATCH)
         begin(page, task)

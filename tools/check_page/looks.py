@@ -5,7 +5,7 @@ import functools
 from browsers import Failed, browser
 from hands import Page
 from samples import SOUND_PAPER
-from tasks import begin, choose_wallet, clear, create, found_words, type_damaged, type_paper
+from tasks import begin, choose_has, choose_wallet, clear, create, found_words, type_damaged, type_paper
 from texts import say
 
 # The contrast that WCAG 2.2 asks for at level AA: of a text, and of a large one.
@@ -177,7 +177,17 @@ def check_mode(page, mode, see):
     page.wait(lambda: found_words(page).count("\n") == 1, "the papers that fit")
     look("two papers that fit")
     check_hidden_words(page)
-    begin(page, "make")
+    begin(page, "make", None)
+    look("whether there is money in the wallet")
+    choose_has(page, "words", "has.words.title")
+    look("12 or 24 words")
+    page.push(say("back"), to=say("home.make"))
+    choose_has(page, "own")
+    choose_wallet(page)
+    look("own secret")
+    for title in ("make.wallet", "make.plan", "home.make"):
+        page.push(say("back"), to=say(title))
+    choose_has(page, "new")
     look("plan")
     page.choose(say("plan.own"))
     look("own plan")
@@ -189,9 +199,6 @@ def check_mode(page, mode, see):
     look("wallet")
     page.push(say("back"))
     choose_wallet(page)
-    page.choose(say("secret.own"))
-    look("own secret")
-    page.choose(say("secret.new"))
     page.tick(say("passphrase.none"))
     look("secret")
     create(page)

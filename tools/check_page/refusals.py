@@ -4,7 +4,7 @@ import json
 from browsers import Failed
 from samples import BAD_CHECKSUM, BAD_PADDING, BIP39, EXCHANGED, FINGERPRINT, PASSPHRASE, SECRET, SOUND_PAPER, THREE_GROUPS
 from samples import changed, opening, refused_beside, with_words
-from tasks import answer_passphrase, begin, begin_replace, choose_wallet, clear, drill, end, paste, take_all, type_digits, type_paper
+from tasks import answer_passphrase, begin, begin_replace, choose_has, choose_wallet, clear, drill, end, paste, take_all, type_digits, type_paper
 from texts import counted, say
 
 import plain
@@ -122,7 +122,10 @@ def check_values(page, see):
     choose_wallet(page)
     page.push(say("make.create"))
     page.wait_text(say("passphrase.missing"))
-    page.choose(say("secret.own"))
+    for title in ("make.wallet", "make.plan", "home.make"):
+        page.push(say("back"), to=say(title))
+    choose_has(page, "own")
+    choose_wallet(page)
     page.push(say("make.create"))
     page.wait_text(say("secret.missing"))
     check_digits(page, see)
@@ -156,10 +159,7 @@ def check_digits(page, see):
         (SECRET, changed_digits, FINGERPRINT, say("secret.differ")),
         (SECRET, SECRET, "", say("noted.missing")),
     ]:
-        if not page.is_chosen(say("secret.own")):
-            raise Failed("after a refusal, another secret is chosen")
         # What was typed before stays in its fields.
-        page.choose(say("secret.own"))
         for field, text_of in [("secret.digits", digits), ("secret.again", again), ("noted.label", noted), ("passphrase.label", PASSPHRASE), ("passphrase.again", PASSPHRASE)]:
             page.go_to("textbox", say(field))
             if page.evaluate("document.activeElement.value") != text_of:

@@ -29,7 +29,7 @@ def go_back(page, title):
 def check_first_steps(page, _):
     """The first screen of each task leads back to the choice of a task."""
     for task in ("make", "check", "recover", "replace", "change", "damaged", "what"):
-        begin(page, task)
+        begin(page, task, None)
         go_back(page, say("home.title"))
     begin(page, "blank")
     go_back(page, say("home.title"))
@@ -60,6 +60,7 @@ def check_make(page, _):
     for name in (say("plan.drop"), say("plan.drop"), f"{say('plan.fewer')}: {say('plan.members', group=0)}"):
         page.push(name)
     page.wait_text(say("plan.lost.any"))
+    go_back(page, say("home.make"))
     go_back(page, say("home.title"))
 
 
@@ -213,15 +214,11 @@ def check_chosen(page, see):
     page.push(say("continue"), to=say("make.secret"))
     if page.evaluate("document.querySelector('details input').value") != "3":
         raise Failed("on the way back, too few throws lose the iteration exponent")
-    page.choose(say("secret.own"))
-    go_back(page, say("make.wallet"))
-    go_back(page, say("make.plan"))
-    for answer, title in [("continue", "plan.sure.title"), ("plan.sure.yes", "make.wallet"), ("continue", "make.secret")]:
+    for title in ("make.wallet", "make.plan", "home.make"):
+        go_back(page, say(title))
+    for answer, title in [("continue", "make.plan"), ("continue", "plan.sure.title"), ("plan.sure.yes", "make.wallet"), ("continue", "make.secret")]:
         page.push(say(answer), to=say(title))
-    if not page.is_chosen(say("secret.own")):
-        raise Failed("on the way back, another secret is chosen")
     see("what was chosen stays")
-    page.choose(say("secret.new"))
     page.tick(say("passphrase.none"))
     create(page)
     page.wait_title(say("paper.title", name="0.0"))

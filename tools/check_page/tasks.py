@@ -7,8 +7,9 @@ from samples import FINGERPRINT, PASSPHRASE, SECRET, THREE_GROUPS, check_papers_
 from texts import counted, say
 
 
-def begin(page, task):
-    """Starts a task from the first screen, and answers the question before it."""
+def begin(page, task, has="new"):
+    """Starts a task from the first screen, and answers the question before it. `has` is what the owner of a new backup has, or nothing to
+    stay at the question for that."""
     page.push(say(f"home.{task}"))
     if task != "blank" and page.title() == say("home.title"):
         page.wait(lambda: page.title() != say("home.title"), "the next screen")
@@ -16,6 +17,15 @@ def begin(page, task):
         page.push(say("prepare.anyway"))
         page.push(say("prepare.yes"))
     page.wait(lambda: page.title() not in [say("home.title"), say("prepare.title"), say("prepare.sure.title")], "the first screen of the task")
+    if task == "make" and has:
+        choose_has(page, has)
+
+
+def choose_has(page, has, to="make.plan"):
+    """Says what the owner of a new backup has, and goes on."""
+    page.wait_title(say("home.make"))
+    page.choose(say(f"has.{has}"))
+    page.push(say("continue"), to=say(to))
 
 
 def begin_replace(page, why="destroyed"):
@@ -146,7 +156,7 @@ def create(page, is_noted=False):
 
 def make(page, plan_label, wallet, words, passphrase, see, digits=None):
     """Makes a backup with a proposed plan. Returns its papers, and the fingerprint to note."""
-    begin(page, "make")
+    begin(page, "make", "new" if digits is None else "own")
     see("plan")
     page.choose(plan_label)
     choose_wallet(page, wallet, words)
@@ -189,6 +199,9 @@ def make(page, plan_label, wallet, words, passphrase, see, digits=None):
     page.wait_text(say("make.with" if passphrase else "make.without"))
     if (say("make.own") in page.text()) != (digits is not None):
         raise Failed("the page doesn't say what becomes of digits on paper, or says it of a secret that it drew")
+    first = page.evaluate("document.querySelector('#main > h1 ~ *').innerText")
+    if (first == say("make.empty")) != (digits is None):
+        raise Failed(f"that a new wallet is empty isn't said first, or is said of an own secret: {first!r}")
     page.wait_text(say("make.note", said="@", plan="").split("@")[0])
     see("backup is made")
     end(page)
@@ -212,8 +225,7 @@ def prove(page, passphrase, fingerprint, is_drawn, see):
 
 
 def type_digits(page, digits, again, noted):
-    """Chooses an own secret, types its digits twice, and the noted fingerprint, unless it is empty. None stands for none."""
-    page.choose(say("secret.own"))
+    """Types the digits of an own secret twice, and the noted fingerprint, unless it is empty. None stands for none."""
     page.fill(say("secret.digits"), digits)
     page.fill(say("secret.again"), again)
     if noted is None:

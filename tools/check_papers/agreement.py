@@ -5,7 +5,7 @@ import random
 import re
 
 from hands import SEED, Failed, counted, say
-from tasks import change, check_changed, end_by_keys, make, paper_prompt, started
+from tasks import DIGITS, change, check_changed, end_by_keys, make, paper_prompt, started
 
 import plain
 from samples import PLANS, PROGRAM, Generated, changed, data_of, name_of
@@ -174,7 +174,7 @@ def compare_repair(case):
 def compare_new(case):
     """Makes a backup of the owner's own secret. ./shamir recovers that secret from the papers that are shown."""
     secret = case.secret.hex()
-    with started("new", case.plan) as owner:
+    with started("new", case.plan, has=DIGITS) as owner:
         papers, noted = make(owner, case.passphrase, case.plan, secret, case.source.choice(["", case.noted]))
     if noted != case.noted or case.told(["recover"], data_of(papers))[0].strip() != secret:
         raise Failed(f"{case.plan}: ./shamir recovers another secret from papers of the dialogue")

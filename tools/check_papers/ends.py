@@ -124,7 +124,7 @@ def check_work():
     """Ctrl-C while the library works for long, and the key that stops that."""
     with started("new", "2of3") as owner:
         settle_slow(owner, "15")
-        owner.answer(say("new.secret"), "1")
+        owner.answer(say("new.secret"), "")
         owner.answer(say("new.passphrase"), "TREZOR")
         owner.answer(say("new.passphrase.again"), "TREZOR")
         wait_working(owner)
@@ -133,7 +133,7 @@ def check_work():
         stop(owner)
         owner.wait(say("new.secret"))
         owner.expect(say("make.stopped"))
-        owner.answer(say("new.secret"), "1")
+        owner.answer(say("new.secret"), "")
         owner.answer(say("new.passphrase"), "TREZOR")
         owner.answer(say("new.passphrase.again"), "TREZOR")
         wait_working(owner)

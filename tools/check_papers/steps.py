@@ -1,7 +1,7 @@
 """What an owner can answer in the tasks 'new', 'replace' and 'repair', the ways back, and answers where the screen is full."""
 from hands import MORE, Failed, say
 from refusals import NUMBERED, back_prompt, word_prompt
-from tasks import SIGN, end_by_keys, in_turn, paper_prompt, started
+from tasks import DIGITS, SIGN, end_by_keys, in_turn, paper_prompt, started
 
 import plain
 from samples import FINGERPRINT, PASSPHRASE, SECRET, SOUND_PAPER, THREE_GROUPS, TWO, papers_of, with_words
@@ -11,7 +11,7 @@ MENU = say("home.choose")
 
 def check_new():
     """Plans, digits and passphrases that are refused, papers that are typed back wrongly, and the owner's own secret."""
-    with started("new", "1of3") as owner:
+    with started("new", "1of3", has=DIGITS) as owner:
         owner.wait(say("new.plan.choose"))
         owner.expect(say("refused.34", first=0))
         if MORE.encode() in owner.raw:
@@ -29,7 +29,6 @@ def check_new():
         owner.answer(say("new.wallet"), "2")
         owner.answer(say("new.words"), "33")
         owner.answer(say("new.secret"), "3")
-        owner.expect(say("secret.new.hint", bytes=32, words=33))
         owner.answer(say("new.secret"), "m")
         owner.answer(say("new.exponent"), "b")
         owner.answer(say("new.secret"), "m")
@@ -38,7 +37,7 @@ def check_new():
         owner.expect(say("more.exponent.wrong"))
         owner.answer("and much longer on a hardware wallet. Is that right? (y/n)", "n")
         owner.answer(say("new.exponent"), "0")
-        owner.answer(say("new.secret"), "2")
+        owner.answer(say("new.secret"), "")
         type_own_secret(owner)
         owner.answer(say("new.passphrase"), "Straße")
         owner.answer(say("new.passphrase"), "")
@@ -290,8 +289,11 @@ def check_back():
     secret, plan, wallet = say("new.secret"), say("new.plan.choose"), say("new.wallet")
     with started() as owner:
         owner.answer(MENU, "1")
-        owner.answer(plan, "b")
+        owner.answer(say("has.choose"), "b")
         owner.answer(MENU, "new")
+        owner.answer(say("has.choose"), DIGITS)
+        owner.answer(plan, "b")
+        owner.answer(say("has.choose"), DIGITS)
         owner.answer(plan, "2")
         owner.answer(wallet, "1")
         owner.answer(say("new.words"), "33")
@@ -300,12 +302,21 @@ def check_back():
         owner.answer(plan, "1")
         owner.answer(wallet, "3")
         owner.answer(say("new.words"), "33")
-        owner.answer(secret, "2")
+        owner.answer(secret, "")
         owner.answer(say("new.secret.digits"), "b")
-        owner.answer(secret, "1")
+        owner.answer(secret, "b")
+        owner.answer(wallet, "b")
+        owner.answer(plan, "b")
+        owner.answer(say("has.choose"), "1")
+        owner.answer(plan, "1")
+        owner.answer(wallet, "3")
+        owner.answer(say("new.words"), "33")
+        owner.wait(secret)
+        owner.expect(say("secret.new", bytes=32, words=33))
+        owner.answer(secret, "")
         owner.answer(say("new.passphrase"), "")
         owner.answer(f"{say('new.passphrase.none')} {say('screen.yes.back')}", "b")
-        owner.answer(secret, "1")
+        owner.answer(secret, "")
         owner.answer(say("new.passphrase"), "")
         owner.answer(f"{say('new.passphrase.none')} {say('screen.yes.back')}", "y")
         owner.wait(say("new.write"))
@@ -316,6 +327,7 @@ def check_back():
     with started("new", "2of3") as owner:
         owner.answer(wallet, "b")
         owner.answer(plan, "b")
+        owner.answer(say("has.choose"), "b")
         owner.answer(MENU, "replace")
         owner.answer(say("replace.how"), "b")
         owner.answer(MENU, "4")
@@ -326,6 +338,30 @@ def check_back():
         owner.answer(paper_prompt(3), "")
         owner.answer(say("replace.choose"), "b")
         owner.wait(paper_prompt(3))
+        end_by_keys(owner)
+
+
+def check_has():
+    """What the owner has says what is done. Papers lead to 'Change the plan', and 12 or 24 words can't become papers."""
+    has = say("has.choose")
+    with started("new", has=None) as owner:
+        owner.answer(has, "")
+        owner.wait(has)
+        owner.expect(say("has.legend"))
+        owner.answer(has, "2")
+        owner.wait(paper_prompt(1))
+        owner.expect(say("change.intro"))
+        owner.answer(paper_prompt(1), "b")
+        owner.answer(has, "4")
+        owner.wait(say("has.words.choose"))
+        owner.expect(f"{say('has.words.title')} [!] {say('has.words.what')}")
+        owner.answer(say("has.words.choose"), "b")
+        owner.answer(has, "4")
+        owner.answer(say("has.words.choose"), "n")
+        owner.answer(say("new.plan.choose"), "1")
+        owner.settle()
+        owner.wait(say("new.secret"))
+        owner.expect(say("secret.new", bytes=16, words=20))
         end_by_keys(owner)
 
 
@@ -360,5 +396,5 @@ def check_full():
             end_by_keys(owner)
 
 
-CHECKS = [check_new, check_replace, check_wrong_plan, check_repair, check_back, check_spaced, check_full]
+CHECKS = [check_new, check_has, check_replace, check_wrong_plan, check_repair, check_back, check_spaced, check_full]
 check = in_turn(CHECKS)

@@ -121,11 +121,18 @@ class Owner(Session):
 
 
 @contextlib.contextmanager
-def started(*words, **how):
-    """Starts the program with these words, and goes on to its first question."""
+def started(*words, has="1", **how):
+    """Starts the program with these words, and goes on to its first question. `has` is the number of what the owner of a new backup has, or
+    nothing to stay at the question for that."""
     with Owner(*words, **how) as owner:
         owner.prepare()
+        if words[:1] == ("new",) and has:
+            owner.reply(say("has.choose"), has)
         yield owner
+
+
+# What an owner has who types the digits of a secret.
+DIGITS = "3"
 
 
 def end_by_keys(owner):
@@ -141,10 +148,8 @@ def make(owner, passphrase, plan, secret=None, known=""):
     """Goes through the task 'new' from the secret on. `known` is the fingerprint that was noted of the owner's own secret. Returns the
     papers and the fingerprint."""
     owner.settle()
-    if secret is None:
-        owner.reply(say("new.secret"), "")
-    else:
-        owner.reply(say("new.secret"), "2")
+    owner.reply(say("new.secret"), "")
+    if secret is not None:
         owner.hidden(say("new.secret.digits"), secret)
         owner.hidden(say("new.secret.again"), secret)
         owner.reply(say("noted.ask"), known)
@@ -169,6 +174,10 @@ def make(owner, passphrase, plan, secret=None, known=""):
     else:
         owner.prove(found, passphrase)
     owner.expect(say("make.done"))
+    if secret is None:
+        owner.expect(f"{say('make.done')} {say('make.empty')}")
+    else:
+        owner.lacks(say("make.empty"), "of an own secret, the wallet is said to be empty")
     owner.finish(say("screen.end"))
     return papers, found
 
@@ -176,7 +185,7 @@ def make(owner, passphrase, plan, secret=None, known=""):
 def check_new(see):
     with started("new", "2/3of5,1of1") as owner:
         papers, noted = make(owner, PASSPHRASE, "2/3of5,1of1")
-        owner.within(15)
+        owner.within(16)
     return papers, noted
 
 

@@ -1,8 +1,9 @@
-"""The task 'new': a plan, a secret, a passphrase, the papers one by one, typed back, drilled, and the fingerprint."""
+"""The task 'new': what the wallet holds, a plan, a secret, a passphrase, the papers one by one, typed back, drilled, and the fingerprint."""
 from __future__ import annotations
 
 from typing import List, Optional, Tuple
 
+from shamir.papers.change import change_plan
 from shamir.papers.desk import Desk, Paper
 from shamir.papers.drill import Verdict, tell_verdict
 from shamir.papers.line import wipe
@@ -16,9 +17,45 @@ from shamir.papers.shown import write_all
 from shamir.papers.texts import say
 
 
+# What an owner may have of a wallet.
+HAS = ("new", "papers", "own", "words")
+
+
 def make_backup(screen: Screen, desk: Desk, given: Optional[str]) -> None:
-    """Makes a backup. `given` is the plan that the command named, if it did. The owner may go back to the tasks."""
-    choices = Choices()
+    """Makes a backup, unless the wallet has one already. `given` is the plan that the command named, if it did. The owner may go back to the
+    tasks."""
+    while True:
+        has = _ask_has(screen)
+        try:
+            if has == "papers":
+                return change_plan(screen, desk)
+            if has == "words":
+                _agree_to_new(screen)
+            return _make(screen, desk, given, Choices(is_own=has == "own"))
+        except Back:
+            desk.clear()
+            given = None
+
+
+def _ask_has(screen: Screen) -> str:
+    """Asks what the owner has: papers of a new secret are no backup of a wallet that holds money."""
+    screen.clear(say("home.make"))
+    screen.tell(say("has.legend"))
+    for number, key in enumerate(HAS, 1):
+        screen.item(f"{say(f'has.{key}')}. {say(f'has.{key}.hint')}", f"{number}  ")
+    screen.gap()
+    return screen.choose(say("has.choose"), {str(number): key for number, key in enumerate(HAS, 1)}, has_back=True)
+
+
+def _agree_to_new(screen: Screen) -> None:
+    """Says that words of BIP-39 can't become papers. The owner goes on with a new wallet, or back."""
+    screen.clear(say("has.words.title"))
+    screen.tell(say("has.words.what"), "bad")
+    screen.choose(say("has.words.choose"), {"n": None}, has_back=True)
+
+
+def _make(screen: Screen, desk: Desk, given: Optional[str], choices: Choices) -> None:
+    """Makes a backup of a new secret, or of the owner's. The owner may go back from the plan."""
     plan, papers, fingerprint = _plan_and_papers(screen, desk, given, choices)
     desk.forget_passphrase()
     desk.written = "unfinished"
@@ -75,6 +112,8 @@ def _create(screen: Screen, desk: Desk, plan: Plan, choices: Choices) -> Tuple[L
 def _tell_done(screen: Screen, plan: Plan, choices: Choices, verdict: Verdict) -> None:
     """Says that the backup is made, what the drill showed, and what to do now. Only what the owner noted was compared."""
     screen.clear(say("make.done"))
+    if not choices.is_own:
+        screen.tell(say("make.empty"), "strong")
     tell_verdict(screen, verdict, "" if verdict.is_own else "good")
     screen.tell(say("quorum.what"))
     screen.tell(noted_plan(plan))

@@ -24,8 +24,7 @@ HEXADECIMAL = b"0123456789abcdefABCDEF"
 
 @dataclass
 class Choices:
-    """What the owner chose beside the plan. `is_own` says that the secret isn't a new one, and `words` is how many words each paper of a new
-    one has."""
+    """What the owner chose beside the plan. `is_own` says that the secret isn't a new one, and `words` is how many words each paper has."""
 
     is_own: bool = False
     has_passphrase: bool = False
@@ -35,17 +34,14 @@ class Choices:
 
 
 def ask_secret(screen: Screen, choices: Choices) -> bytearray:
-    """Returns a new secret, or the owner's own. The owner may go back to the plan."""
-    screen.tell(say("secret.legend"))
+    """Returns a new secret, or the owner's own. The owner may go back to the wallet."""
     size = BYTES[choices.words]
-    for number, key in enumerate(["new", "own"], 1):
-        screen.item(f"{say(f'secret.{key}')}. {say(f'secret.{key}.hint', bytes=size, words=choices.words)}", f"{number}  ")
-    screen.gap()
+    if not choices.is_own:
+        screen.tell(say("secret.new", bytes=size, words=choices.words))
     while True:
-        answer = screen.choose(say("new.secret"), {"1": "new", "2": "own", "m": "more"}, "1", has_back=True)
-        choices.is_own = answer == "own"
+        is_more = screen.choose(say("new.secret"), {"": False, "m": True}, has_back=True)
         try:
-            if answer == "more":
+            if is_more:
                 _ask_more(screen, choices)
             else:
                 return _ask_own(screen) if choices.is_own else drawn(size)
@@ -54,8 +50,8 @@ def ask_secret(screen: Screen, choices: Choices) -> bytearray:
 
 
 def ask_wallet(screen: Screen, title: str, choices: Choices, asks_words: bool = False) -> None:
-    """Asks which wallet will read the papers, and how many words it asks for if there may be a new secret. The answers say whether the
-    papers get the extendable flag, and how long a new secret is. The owner may go back."""
+    """Asks which wallet will read the papers, and how many words it asks for if papers of a secret are made. The answers say whether the
+    papers get the extendable flag, and how long the secret is. The owner may go back."""
     while True:
         screen.clear(title)
         screen.tell(say("wallet.legend"))
@@ -73,12 +69,11 @@ def ask_wallet(screen: Screen, title: str, choices: Choices, asks_words: bool = 
 
 
 def _ask_words(screen: Screen, choices: Choices) -> None:
-    """Asks how many words each paper of a new secret is to have. The owner may go back."""
+    """Asks how many words each paper is to have. The owner may go back."""
     screen.tell(say("wallet.words"))
     for count in BYTES:
         screen.item(f"{say('entry.words', count=count)}. {say(f'wallet.words.{count}.hint')}")
     screen.gap()
-    screen.tell(say("wallet.words.own"))
     choices.words = screen.choose(say("new.words"), {str(count): count for count in BYTES}, "20", has_back=True)
 
 
