@@ -91,7 +91,7 @@ def judge_case(rng):
     if rng.random() < 0.25:
         line = forged_line(rng, line)
     if rng.random() < 0.05:
-        line = rng.choice([line + b"\n", compare.spoiled(rng, line.decode("latin-1")).encode("latin-1"), b"", b"# a note"])
+        line = rng.choice([line + b"\n\n", compare.spoiled(rng, line.decode("latin-1")).encode("latin-1"), b"", b"# a note"])
     data = b"\n".join(lines)
     return compare.Case(["judge", line.hex()], data, plain.run_judge(data, line))
 

@@ -135,13 +135,23 @@ export class Copies {
     return this.data(value, what);
   }
 
+  /**
+   * Returns a line without the line feed that may end it. The engine takes none.
+   * @param {unknown} value
+   * @param {string} what
+   */
+  line(value, what) {
+    const bytes = this.text(value, what);
+    return bytes[bytes.length - 1] === LINE_FEED ? bytes.subarray(0, -1) : bytes;
+  }
+
   /** @param {unknown} lines */
   lines(lines) {
     if (typeof lines === "string" || isBytes(lines)) return this.text(lines, "the text of lines");
     if (typeof lines !== "object" || lines === null || lines instanceof String || !(Symbol.iterator in lines)) {
       throw new TypeError("the lines are neither a text nor an iterable of texts");
     }
-    const all = Array.from(/** @type {Iterable<unknown>} */ (lines), (line, index) => this.#line(line, `line ${index + 1} of the list`));
+    const all = Array.from(/** @type {Iterable<unknown>} */ (lines), (line, index) => this.#oneLine(line, `line ${index + 1} of the list`));
     const joined = this.keep(new Uint8Array(new ArrayBuffer(all.reduce((length, line) => length + line.length + 1, 0)))).fill(LINE_FEED);
     let end = 0;
     for (const line of all) {
@@ -152,13 +162,12 @@ export class Copies {
   }
 
   /**
-   * Returns a line of a list without its line feed.
+   * Returns a line of a list, which holds no other line feed.
    * @param {unknown} value
    * @param {string} what
    */
-  #line(value, what) {
-    const bytes = this.text(value, what);
-    const line = bytes[bytes.length - 1] === LINE_FEED ? bytes.subarray(0, -1) : bytes;
+  #oneLine(value, what) {
+    const line = this.line(value, what);
     if (line.includes(LINE_FEED)) throw new RangeError(`${what} holds a line feed, so it is several lines`);
     return line;
   }

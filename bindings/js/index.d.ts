@@ -21,6 +21,7 @@ export type Judgement = import("./types.js").Judgement;
 export type Lines = import("./types.js").Lines;
 export type Outcome = import("./types.js").Outcome;
 export type RecoverOptions = import("./types.js").RecoverOptions;
+export type Recovered = import("./types.js").Recovered;
 export type ResplitOptions = import("./types.js").ResplitOptions;
 export type Share = import("./types.js").Share;
 export type ShareFields = import("./types.js").ShareFields;

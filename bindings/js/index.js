@@ -22,6 +22,7 @@ export { Code, Engine, EXPONENT_MAX, load, OF_GROUPS, Refusal } from "./shamir.j
 /** @typedef {import("./types.js").Lines} Lines */
 /** @typedef {import("./types.js").Outcome} Outcome */
 /** @typedef {import("./types.js").RecoverOptions} RecoverOptions */
+/** @typedef {import("./types.js").Recovered} Recovered */
 /** @typedef {import("./types.js").ResplitOptions} ResplitOptions */
 /** @typedef {import("./types.js").Share} Share */
 /** @typedef {import("./types.js").ShareFields} ShareFields */
@@ -44,7 +45,7 @@ const FILES = "node:fs/promises";
  */
 export async function open(module = new URL("./shamir32.wasm", import.meta.url)) {
   if (module.protocol === "file:") {
-    const { readFile } = await import(FILES);
+    const { readFile } = await import(/* webpackIgnore: true */ FILES);
     return load(await readFile(module));
   }
   const answer = await fetch(module);

@@ -7,14 +7,16 @@
  *     }
  *
  * Between outcomes, other tasks of the host run, such as one that stops the drill. While the engine decrypts, they run only if it is in a
- * worker. The arguments are looked at at the first `next`, which then throws any refusal.
- * @param {TheEngine} engine
+ * worker: give an `InWorker` as the engine. The arguments are looked at at the first `next`, which then throws any refusal.
+ * @param {TheEngine | InWorker} engine
  * @param {Lines} lines
  * @param {DrillOptions} [options]
+ * @param {AbortSignal} [signal]
  * @returns {AsyncGenerator<NumberedOutcome, void, void>}
  */
-export function drillWithProgress(engine: TheEngine, lines: Lines, options?: import("./types.js").DrillOptions | undefined): AsyncGenerator<NumberedOutcome, void, void>;
+export function drillWithProgress(engine: TheEngine | InWorker, lines: Lines, options?: import("./types.js").DrillOptions | undefined, signal?: AbortSignal | undefined): AsyncGenerator<NumberedOutcome, void, void>;
 export type TheEngine = import("./shamir.js").Engine;
+export type InWorker = import("./worker.js").InWorker;
 export type DrillOptions = import("./types.js").DrillOptions;
 export type Lines = import("./types.js").Lines;
 export type Outcome = import("./types.js").Outcome;

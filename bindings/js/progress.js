@@ -3,6 +3,7 @@
 import { Copies } from "./copies.js";
 
 /** @typedef {import("./shamir.js").Engine} TheEngine */
+/** @typedef {import("./worker.js").InWorker} InWorker */
 /** @typedef {import("./types.js").DrillOptions} DrillOptions */
 /** @typedef {import("./types.js").Lines} Lines */
 /** @typedef {import("./types.js").Outcome} Outcome */
@@ -20,21 +21,23 @@ const TURN_MILLISECONDS = 10;
  *     }
  *
  * Between outcomes, other tasks of the host run, such as one that stops the drill. While the engine decrypts, they run only if it is in a
- * worker. The arguments are looked at at the first `next`, which then throws any refusal.
- * @param {TheEngine} engine
+ * worker: give an `InWorker` as the engine. The arguments are looked at at the first `next`, which then throws any refusal.
+ * @param {TheEngine | InWorker} engine
  * @param {Lines} lines
  * @param {DrillOptions} [options]
+ * @param {AbortSignal} [signal]
  * @returns {AsyncGenerator<NumberedOutcome, void, void>}
  */
-export async function* drillWithProgress(engine, lines, options = {}) {
+export async function* drillWithProgress(engine, lines, options = {}, signal) {
   const own = new Copies();
   try {
     const given = own.lines(lines);
     let number = 0;
     let quorums = 0n;
     let start = performance.now();
-    for (const outcome of engine.drill(given, options)) {
-      if (number === 0) quorums = engine.quorums(given);
+    for await (const outcome of engine.drill(given, options, signal)) {
+      signal?.throwIfAborted();
+      if (number === 0) quorums = await engine.quorums(given, signal);
       number++;
       yield { ...outcome, number, quorums };
       if (performance.now() - start < TURN_MILLISECONDS) continue;

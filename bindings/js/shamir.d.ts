@@ -20,7 +20,7 @@ export class Engine {
      */
     version(): string;
     /**
-     * Reads one mnemonic, which is a line without its line feed, and returns its fields and its value.
+     * Reads one mnemonic, which is a line, and returns its fields and its value. A line feed may end it.
      *
      *     shamir.parse(mnemonics[2]).memberIndex; // 2
      *

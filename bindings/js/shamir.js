@@ -140,7 +140,7 @@ export class Engine {
   }
 
   /**
-   * Reads one mnemonic, which is a line without its line feed, and returns its fields and its value.
+   * Reads one mnemonic, which is a line, and returns its fields and its value. A line feed may end it.
    *
    *     shamir.parse(mnemonics[2]).memberIndex; // 2
    *
@@ -151,7 +151,7 @@ export class Engine {
   parse(mnemonic) {
     return withCopies((own) => {
       const fields = new Struct(new Uint8Array(SHARE_BYTES));
-      const value = this.#output("shamir_parse", [own.text(mnemonic, "the mnemonic"), fields], SECRET_BYTES_MAX);
+      const value = this.#output("shamir_parse", [own.line(mnemonic, "the mnemonic"), fields], SECRET_BYTES_MAX);
       return { ...fieldsOf(fields.bytes), value };
     });
   }
@@ -407,7 +407,7 @@ export class Engine {
   judge(lines, mnemonic) {
     return withCopies((own) => {
       const judgement = new Struct(new Uint8Array(JUDGEMENT_BYTES));
-      const given = [own.lines(lines), own.text(mnemonic, "the mnemonic"), judgement, new Room(STATUS_BYTES_MAX)];
+      const given = [own.lines(lines), own.line(mnemonic, "the mnemonic"), judgement, new Room(STATUS_BYTES_MAX)];
       const answer = this.#checked("shamir_judge", given);
       own.keep(answer.output);
       return { share: fieldsOf(judgement.bytes), again: judgement.bytes[SHARE_BYTES] > 0, status: statusOf(answer) };
@@ -567,7 +567,7 @@ export class Engine {
    * @returns {Uint8Array[]}
    */
   repairBytes(line) {
-    return withCopies((own) => this.#lines("shamir_repair", [own.text(line, "the line")], REPAIRED_BYTES_MAX));
+    return withCopies((own) => this.#lines("shamir_repair", [own.line(line, "the line")], REPAIRED_BYTES_MAX));
   }
 
   /**

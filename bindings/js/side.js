@@ -5,7 +5,7 @@ import { refusalOf } from "./clones.js";
 /** @typedef {{ result?: any, error?: unknown, cause?: unknown }} Answer */
 
 const THREADS = "node:worker_threads";
-const SIDE = new URL("./worker_side.js", import.meta.url);
+const SIDE = "./worker_side.js";
 
 /**
  * Starts a worker. What it answers goes to `take`, and what ends it to `fail`.
@@ -15,15 +15,16 @@ const SIDE = new URL("./worker_side.js", import.meta.url);
  */
 async function newWorker(take, fail) {
   if (typeof Worker === "function") {
-    const worker = new Worker(SIDE, { type: "module" });
+    // Tools that join modules find the worker's by this very expression.
+    const worker = new Worker(new URL("./worker_side.js", import.meta.url), { type: "module" });
     worker.onmessage = ({ data }) => take(data);
     worker.onerror = ({ message = "its files can't be loaded" }) => fail(new Error(`the worker ended: ${message}`));
     worker.onmessageerror = () => fail(new Error("the worker's answer can't be read"));
     return worker;
   }
-  const threads = await import(THREADS);
+  const threads = await import(/* webpackIgnore: true */ THREADS);
   // Options of the host, such as those for a program in its command line, aren't for the worker.
-  const worker = new threads.Worker(SIDE, { execArgv: [] });
+  const worker = new threads.Worker(new URL(SIDE, import.meta.url), { execArgv: [] });
   worker.on("message", take).on("error", fail).on("messageerror", fail);
   worker.on("exit", () => fail(new Error("the worker ended")));
   return worker;

@@ -239,6 +239,18 @@ export interface RecoverOptions extends DecryptOptions {
   maxExponent?: number | undefined;
 }
 
+/** What papers recover. */
+export interface Recovered {
+  secret: Uint8Array;
+  /**
+   * The names of the quorums of which a digest doesn't match, such as `0.0+0.1`. If the first quorum is right, no other one is tried, and
+   * this is empty.
+   */
+  failed: string[];
+  /** The names of the papers that are in a quorum that failed, and in none that is right: the wrong ones are among them. */
+  doubtful: string[];
+}
+
 export interface ResplitOptions {
   /**
    * The random bytes, exactly as many as `create` takes for the plan and a secret as long as the value of a mnemonic. They must be

@@ -5,6 +5,11 @@ export class InWorker {
     /** Ends the worker, and with it what its memory holds. Unanswered calls fail with an `AbortError`. The next call starts another worker. */
     end(): void;
     /**
+     * Returns papers that are judged, and from which a secret is recovered, in this worker.
+     * @returns {PapersInWorker}
+     */
+    papers(): PapersInWorker;
+    /**
      * @param {Text} plan
      * @param {Uint8Array} secret
      * @param {CreateOptions} [options]
@@ -137,3 +142,4 @@ export type ResplitOptions = import("./types.js").ResplitOptions;
 export type Share = import("./types.js").Share;
 export type Status = import("./types.js").Status;
 export type Text = import("./types.js").Text;
+import { PapersInWorker } from "./papers_in_worker.js";

@@ -11,6 +11,7 @@
  * Nobody can clear the copies in the worker: `end` drops them all.
  */
 import { Copies, plain } from "./copies.js";
+import { PapersInWorker } from "./papers_in_worker.js";
 import { started } from "./side.js";
 
 /** @typedef {import("./types.js").CreateOptions} CreateOptions */
@@ -104,6 +105,14 @@ export class InWorker {
     this.#ending.abort();
     this.#drop(this.#ending.signal.reason);
     this.#ending = new AbortController();
+  }
+
+  /**
+   * Returns papers that are judged, and from which a secret is recovered, in this worker.
+   * @returns {PapersInWorker}
+   */
+  papers() {
+    return new PapersInWorker((name, given, signal) => this.#call(name, given, signal));
   }
 
   /** @returns {Promise<import("./side.js").Side>} */

@@ -1,5 +1,6 @@
 /** What runs in the worker of `worker.js`: it makes one call after the other. */
 import { open, Refusal } from "./index.js";
+import { recovered } from "./papers.js";
 
 /** @typedef {import("./types.js").Outcome} Outcome */
 /** @typedef {{ name: string, given: any[], module: string | undefined }} Request */
@@ -40,6 +41,12 @@ function part(engine, [lines, options, drill]) {
 }
 
 /**
+ * What the engine doesn't have itself.
+ * @type {Record<string, (engine: import("./shamir.js").Engine, given: any[]) => unknown>}
+ */
+const MORE = { drill: part, recovered: (engine, [papers, options]) => recovered(engine, papers, options) };
+
+/**
  * Makes a call, and returns its result or its error.
  * @param {Request} request
  */
@@ -48,8 +55,8 @@ async function answered({ name, given, module }) {
     opened ??= module === undefined ? open() : open(new URL(module));
     opened.catch(() => (opened = undefined));
     const engine = await opened;
-    const call = /** @type {Record<string, (...given: any[]) => unknown>} */ (/** @type {unknown} */ (engine))[name];
-    return { result: name === "drill" ? part(engine, given) : call.apply(engine, given) };
+    const calls = /** @type {Record<string, (...given: any[]) => unknown>} */ (/** @type {unknown} */ (engine));
+    return { result: Object.hasOwn(MORE, name) ? MORE[name](engine, given) : calls[name](...given) };
   } catch (error) {
     return { error, cause: error instanceof Refusal ? error.cause : undefined };
   }
@@ -60,6 +67,7 @@ async function answered({ name, given, module }) {
 if (typeof globalThis.postMessage === "function") {
   globalThis.onmessage = async ({ data }) => /** @type {Outside} */ (/** @type {unknown} */ (globalThis)).postMessage(await answered(data));
 } else {
-  const { parentPort } = await import(THREADS);
-  parentPort.on("message", async (/** @type {Request} */ request) => parentPort.postMessage(await answered(request)));
+  import(/* webpackIgnore: true */ THREADS).then(({ parentPort }) => {
+    parentPort.on("message", async (/** @type {Request} */ request) => parentPort.postMessage(await answered(request)));
+  });
 }

@@ -59,15 +59,24 @@ static int make(const char *plan) {
 
 static int recover(const char *noted) {
     shamir_papers papers = {.lines = own.lines, .lines_bytes = sizeof own.lines};
-    shamir_answer answer;
+    shamir_answer answer = {.code = SHAMIR_E_DIGEST_MISMATCH};
+    unsigned place;
 
-    while (!papers.enough && read_line(own.paper, sizeof own.paper)) {
-        answer = shamir_papers_add(&papers, own.paper, strlen(own.paper), own.text, sizeof own.text);
-        tell(papers.again ? "again\n" : "", answer, stdout);
+    while (answer.code == SHAMIR_E_DIGEST_MISMATCH) {
+        do {
+            if (!read_line(own.paper, sizeof own.paper))
+                return fail("more papers are needed");
+            answer = shamir_papers_add(&papers, own.paper, strlen(own.paper), own.text, sizeof own.text);
+            tell(papers.again ? "again\n" : "", answer, stdout);
+        } while (!papers.enough);
+        answer = shamir_papers_recover(&papers, own.key, SHAMIR_EXPONENT_MAX, noted, own.secret, sizeof own.secret,
+                                       own.text, sizeof own.text);
+        if (answer.code == SHAMIR_E_DIGEST_MISMATCH)
+            tell("", answer, stdout);
     }
-    if (!papers.enough)
-        return fail("more papers are needed");
-    answer = shamir_papers_recover(&papers, own.key, noted, own.secret, sizeof own.secret);
+    for (place = 0; place < 256; place++)
+        if (papers.doubtful[place / 16] >> place % 16 & 1)
+            printf("doubtful %u.%u\n", place / 16, place % 16);
     if (answer.code == SHAMIR_DONE)
         answer = shamir_fingerprint(own.secret, (size_t)answer.written, own.text, sizeof own.text);
     return tell("fingerprint ", answer, stderr) || puts("") < 0;
@@ -76,7 +85,8 @@ static int recover(const char *noted) {
 static int drill(const char *noted, const char *name) {
     FILE *file = fopen(name, "r");
     size_t bytes = file ? fread(own.lines, 1, sizeof own.lines, file) : 0;
-    shamir_drilling run = shamir_drill_start(own.lines, bytes, own.key, noted, own.text, sizeof own.text);
+    shamir_drilling run =
+        shamir_drill_start(own.lines, bytes, own.key, SHAMIR_EXPONENT_MAX, noted, own.text, sizeof own.text);
 
     if (!file || !feof(file))
         return fail("the file can't be read, or is too long");

@@ -26,12 +26,21 @@ static void make(shamir::Text passphrase, char **words) {
 
 static void recover(shamir::Text passphrase, char **words) {
     shamir::Papers papers;
-    for (std::string paper; !papers.enough() && std::getline(std::cin, paper);)
+    for (std::string paper; std::getline(std::cin, paper);) {
         std::cout << shamir::to_text(papers.add(paper));
-    if (!papers.enough())
-        throw std::runtime_error("more papers are needed");
-    const shamir::Secret secret = *papers.recover({passphrase, words[2]});
-    std::cout << "fingerprint " << *shamir::fingerprint(secret) << "\n";
+        if (!papers.enough())
+            continue;
+        const auto found = papers.recover({passphrase, words[2]});
+        if (!found && found.error().code == SHAMIR_E_DIGEST_MISMATCH) {
+            std::cout << found.error().message() << "\n";
+            continue;
+        }
+        for (const shamir::Name &name : found->doubtful)
+            std::cout << "doubtful " << shamir::to_text(shamir::Names{name}) << "\n";
+        std::cout << "fingerprint " << *shamir::fingerprint(found->secret) << "\n";
+        return;
+    }
+    throw std::runtime_error("more papers are needed");
 }
 
 static void drill(shamir::Text passphrase, char **words) {

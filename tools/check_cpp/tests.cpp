@@ -14,7 +14,8 @@
 
 namespace {
 
-constexpr shamir::Text secret_digits = "bb54aac4b89dc868ba37d9cc21b2cece", plan = "2/2of3,1of1,1of1", key = "TREZOR";
+constexpr shamir::Text secret_digits = "bb54aac4b89dc868ba37d9cc21b2cece", plan = "2/2of3,1of1,1of1", key = "TREZOR",
+                       long_key = "a passphrase that no short string has room for";
 constexpr shamir::Text lines[] = {
     "academic aluminum acrobat leaf buyer drink heat negative damage union purchase photo inmate training amazing yield bucket wrote mule "
     "cluster",
@@ -205,7 +206,8 @@ void check_papers()
     const shamir::RecoverOptions noted{key, "df41d8fe"};
     expect("too few papers", !held.enough() && held.add(lines[1]) && held.enough());
     const auto found = held.recover(noted);
-    expect("papers that are enough", found && std::equal(found->begin(), found->end(), secret.begin(), secret.end()));
+    expect("papers that are enough", found && std::equal(found->secret.begin(), found->secret.end(), secret.begin(), secret.end())
+        && found->failed.empty() && found->doubtful.empty());
     expect("the backup of the last paper", held.add(alone) && held.enough() && held.recover(noted) && !held.recover({"x", "df41d8fe"})
         && held.add(lines[0]) && held.enough() && held.recover(noted));
     expect("no papers", !shamir::Papers().enough() && shamir::Papers().recover().error().code == SHAMIR_E_NO_SHARES);
@@ -214,6 +216,61 @@ void check_papers()
         && shamir::to_text(shamir::judge("", lines[0])) == "groups 0 of 2\ngroup 0 members 1 of 2 0.0\n");
     shamir::Papers spelled;
     expect("a long line", spelled.add(spaced) && spelled.add(lines[4]) && shamir::Text(spelled.lines(1)) == shamir::Text(papers({3, 4})));
+}
+
+/* One wrong paper doesn't hide what the others give, and can be taken out. */
+void check_wrong_papers()
+{
+    const shamir::RecoverOptions noted{key, "df41d8fe"};
+    shamir::Papers held;
+    for (const shamir::Text paper : {alone, conflicting, lines[1], lines[3]}) {
+        expect("papers of which one is wrong", held.add(paper).has_value());
+    }
+    const auto refused = held.recover(noted);
+    expect("no quorum that is right", !refused && refused.error().code == SHAMIR_E_DIGEST_MISMATCH && refused.error().first == 0);
+    expect("papers of which two are right", held.add(lines[4]) && held.enough());
+    const auto found = held.recover(noted);
+    expect("papers that are recovered", found && std::equal(found->secret.begin(), found->secret.end(), secret.begin(), secret.end())
+        && found->failed == std::vector<shamir::Names>{{{0, 0}, {0, 1}, {1, 0}}, {{0, 0}, {0, 1}, {2, 0}}}
+        && found->doubtful == shamir::Names{{0, 0}, {0, 1}});
+    expect("another secret", held.recover({key, "00000000"}).error().code == SHAMIR_E_OTHER_SECRET);
+    expect("a paper that is cleared of doubt", held.add(lines[2]) && (*held.recover(noted)).doubtful == shamir::Names{{0, 0}}
+        && (*held.recover(noted)).failed.size() == 4);
+    expect("no paper to take out", !held.remove(1, {0, 3}) && !held.remove(2, {0, 0}) && held.enough());
+    expect("a right paper beside a wrong one", held.add(lines[0]).error().code == SHAMIR_E_CONFLICTING_SHARE);
+    expect("a paper that is taken out", held.remove(1, {0, 0}) && held.enough() && held.add(lines[0]) && (*held.recover(noted)).failed.empty());
+    expect("others", shamir::Text(held.lines(1)) == shamir::Text(papers({1, 3, 4, 2, 0})) && held.ids() == std::vector<std::uint16_t>{7945, 1});
+    expect("papers that aren't enough", held.remove(1, {1, 0}) && held.remove(1, {0, 1}) && held.enough() && held.remove(1, {2, 0}) && !held.enough());
+    expect("the last paper", held.remove(1, {0, 0}) && held.remove(1, {0, 2}) && held.ids() == std::vector<std::uint16_t>{7945}
+        && !held.enough() && held.recover().error().code == SHAMIR_E_NO_SHARES && held.add(alone) && held.enough());
+}
+
+/* A line feed may end one mnemonic, and no other place has one. */
+void check_line_feed()
+{
+    const std::string ended = std::string(alone) + "\n", spelled = std::string(lines[0].substr(0, lines[0].rfind(' '))) + " ?\n";
+    shamir::Papers held;
+    expect("a mnemonic with a line feed", (*shamir::parse(ended)).id == 7945 && (*shamir::judge("", ended)).share.id == 7945
+        && shamir::Text(*shamir::repair(spelled)) == shamir::Text(papers({0})) && held.add(ended) && (*held.add(ended)).again);
+    expect("two line feeds", shamir::parse(ended + "\n").error().word() == 20 && shamir::judge("", "\n" + ended).error().word() == 1
+        && shamir::repair(spelled + "\n").error().word() == 20 && held.add(ended + "\n").error().word() == 20);
+}
+
+/* Options keep their passphrase, whatever becomes of the text. */
+void check_passphrase()
+{
+    shamir::RecoverOptions options;
+    {
+        std::string text(key);
+        options.passphrase = text + "";
+        text.assign(text.size(), 'x');
+    }
+    const auto found = shamir::recover(alone, options);
+    expect("a passphrase whose text is gone", found && std::equal(found->begin(), found->end(), secret.begin(), secret.end()));
+    expect("a passphrase that is read", shamir::Text(options.passphrase) == key && shamir::Text(shamir::Passphrase()).empty());
+    options.passphrase = long_key;
+    const shamir::RecoverOptions copy = options;
+    expect("a passphrase that is copied", shamir::recover(alone, copy) && shamir::Text(copy.passphrase) == long_key);
 }
 
 /* A copy for which there is no memory changes nothing, and what is moved from has no papers. */
@@ -257,7 +314,17 @@ void check_no_memory_in_c()
     given = before;
     expect("papers in C with memory again", add(lines[4]).code == SHAMIR_DONE
         && shamir::Text(held.backup, held.backup_bytes) == shamir::Text(papers({3, 4})));
-    shamir_drilling drilling = shamir_drill_start(held.backup, held.backup_bytes, "TREZOR", "df41d8fe", text, sizeof text);
+    /* There is memory to find the paper, and none to count what is left; or not even that. */
+    for (const int enough : {0, 1, 2}) {
+        given = enough;
+        const shamir_papers there = held;
+        const shamir_answer answer = shamir_papers_remove(&held, 1, 2, 0);
+        given = before;
+        expect("a paper in C that isn't taken out without memory", answer.code == SHAMIR_E_NO_MEMORY && !answer.first && held.used == there.used
+            && held.enough && shamir::Text(held.backup, held.backup_bytes) == shamir::Text(papers({3, 4})));
+    }
+    shamir_drilling drilling =
+        shamir_drill_start(held.backup, held.backup_bytes, "TREZOR", SHAMIR_EXPONENT_MAX, "df41d8fe", text, sizeof text);
     given = 1;
     const bool goes_on = shamir_drill_next(&drilling);
     given = before;
@@ -278,6 +345,16 @@ void check_no_memory()
     given = 1;
     expect("a count of quorums without memory", is_refused(shamir::drill(papers({3, 4}), {}, [](const auto &, const auto &) { return true; })));
     given = before;
+    shamir::Papers held;
+    expect("papers to take out", held.add(lines[3]) && held.add(lines[4]));
+    given = 0;
+    try {
+        held.remove(1, {1, 0});
+        expect("a paper that is taken out without memory", false);
+    } catch (const std::bad_alloc &) {
+    }
+    given = before;
+    expect("papers that stay", held.enough() && shamir::Text(held.lines(1)) == shamir::Text(papers({3, 4})));
     check_no_memory_in_c();
 }
 
@@ -345,17 +422,19 @@ void check_memory()
 {
     /* A block that isn't cleared is found. */
     looks = true;
-    for (const shamir::Text text : {shamir::Text(reinterpret_cast<const char *>(secret.data()), secret.size()), lines[0]}) {
+    for (const shamir::Text text : {shamir::Text(reinterpret_cast<const char *>(secret.data()), secret.size()), lines[0], long_key}) {
         void *block = ::operator new(text.size());
         std::memcpy(block, text.data(), text.size());
         ::operator delete(block);
     }
-    expect("a search of what is freed", left == 2);
+    expect("a search of what is freed", left == 3);
     left = 0;
     check_creation();
     check_recovery();
     check_drill();
     check_papers();
+    check_wrong_papers();
+    check_passphrase();
     {
         shamir::Mnemonics held = papers({0, 1, 2, 3, 4});
         auto other = held;
@@ -385,7 +464,8 @@ extern "C" void *given_block(std::size_t size) { return given-- > 0 ? std::mallo
     if (looks && block) {
         const std::size_t size = malloc_usable_size(block);
         left += holds(bytes, size, secret.data(), secret.size()) || holds(bytes, size, secret_digits.data(), secret_digits.size())
-            || holds(bytes, size, lines[0].data() + 20, 40) || holds(bytes, size, lines[4].data() + 20, 40);
+            || holds(bytes, size, lines[0].data() + 20, 40) || holds(bytes, size, lines[4].data() + 20, 40)
+            || holds(bytes, size, long_key.data(), long_key.size());
     }
     std::free(block);
 }
@@ -399,6 +479,9 @@ int main()
     check_recovery();
     check_reading();
     check_papers();
+    check_wrong_papers();
+    check_line_feed();
+    check_passphrase();
     check_copies();
     check_no_memory();
     check_refusals();

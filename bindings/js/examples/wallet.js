@@ -3,7 +3,7 @@
 // stay short, it shows what is typed, and keeps it in strings. A wallet hides it. The head of shamir.js says how to keep it as bytes.
 import { readFileSync } from "node:fs";
 import { createInterface } from "node:readline";
-import { drillWithProgress, open, Papers } from "shamir";
+import { Code, drillWithProgress, open, Papers } from "shamir";
 
 const shamir = await open();
 const lines = createInterface({ input: process.stdin })[Symbol.asyncIterator]();
@@ -16,9 +16,19 @@ async function* make(passphrase, plan) {
 
 async function* recover(passphrase, expect) {
   const papers = new Papers(shamir);
-  yield* papers.collect(lines);
-  if (!papers.enough) throw new Error("more papers are needed");
-  yield `fingerprint ${shamir.fingerprint(papers.recover({ passphrase, expect }))}`;
+  for await (const paper of lines) {
+    yield papers.addAndTell(paper);
+    if (!papers.enough) continue;
+    try {
+      const { secret, doubtful } = papers.recover({ passphrase, expect });
+      yield* doubtful.map((name) => `doubtful ${name}`);
+      return yield `fingerprint ${shamir.fingerprint(secret)}`;
+    } catch (error) {
+      if (error.code !== Code.DIGEST_MISMATCH) throw error;
+      yield error.message;
+    }
+  }
+  throw new Error("more papers are needed");
 }
 
 async function* drill(passphrase, expect, file) {

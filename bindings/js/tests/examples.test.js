@@ -5,7 +5,7 @@ import test from "node:test";
 import { load, OF_GROUPS } from "../shamir.js";
 import * as given from "./given.js";
 import { AS_BEFORE, FIVE, FIVE_QUORUMS, MISMATCHED, MISMATCHED_GROUPS, ONE, PLAN, SECRET, TWO, TWO_SECRET } from "./given.js";
-import { ENCRYPTED, EXTENDABLE, SPLIT_ANEW, UNDONE, bytesOf, counting, file, ofHex, shamir } from "./given.js";
+import { ENCRYPTED, EXTENDABLE, SPLIT_ANEW, UNDONE, bytesOf, counting, file, ofHex, refused, shamir } from "./given.js";
 
 const KEY = { passphrase: "TREZOR" };
 
@@ -34,6 +34,20 @@ test("create", () => {
   assert.deepEqual(flags, [false, true]);
   const { exponent, extendable } = shamir.parse(shamir.create("1of1", SECRET)[0]);
   assert.deepEqual([exponent, extendable], [1, true], "the defaults of the reference implementation");
+});
+
+test("a line feed may end one mnemonic", () => {
+  for (const given of [`${ONE}\n`, `${ONE}\r\n`, bytesOf(`${ONE}\n`)]) {
+    assert.deepEqual(shamir.parse(given), shamir.parse(ONE));
+    assert.deepEqual(shamir.judge([], given), shamir.judge([], ONE));
+    assert.deepEqual(shamir.repair(given), [ONE]);
+  }
+  assert.deepEqual(shamir.repair(`${ONE.replace("keyboard", "?")}\n`), [ONE]);
+  for (const call of [(line) => shamir.parse(line), (line) => shamir.repair(line), (line) => shamir.judge([], line)]) {
+    refused(11, null, [20, 0], () => call(`${ONE}\n\n`));
+    refused(11, null, [1, 0], () => call(`\n${ONE}`));
+    refused(12, null, [0, 0], () => call("\n"));
+  }
 });
 
 test("the greatest backup", () => {

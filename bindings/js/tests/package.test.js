@@ -74,7 +74,7 @@ test("papers are enough for the backup of the last one", async () => {
     [ONE, "again\ngroups 1 of 1\ngroup 0 members 1 of 1 0.0", true],
   ]) {
     assert.deepEqual([papers.addAndTell(paper), papers.enough], [told, isEnough]);
-    if (isEnough) assert.deepEqual(papers.recover({ ...KEY, expect: "df41d8fe" }), SECRET);
+    if (isEnough) assert.deepEqual(papers.recover({ ...KEY, expect: "df41d8fe" }), recovered());
     else assert.throws(() => papers.recover(KEY), { code: 30 });
   }
   assert.throws(() => papers.recover({ expect: "df41d8fe" }), { code: 52 });
@@ -95,11 +95,91 @@ test("papers are collected until there are enough", async () => {
     const [papers, found] = [new Papers(shamir), []];
     for await (const told of papers.collect(lines)) found.push(told);
     assert.deepEqual([found, papers.ids, papers.enough], [wanted, [25653, 1], true]);
-    assert.deepEqual(papers.recover({ ...KEY, expect: "df41d8fe" }), SECRET);
+    assert.deepEqual(papers.recover({ ...KEY, expect: "df41d8fe" }), recovered());
   }
   const papers = new Papers(shamir);
   for await (const told of papers.collect([FIVE[3]])) assert.equal(told, first);
   assert.equal(papers.enough, false);
+});
+
+/** What papers recover from the backup of ONE and FIVE. */
+function recovered(failed = [], doubtful = []) {
+  return { secret: SECRET, failed, doubtful };
+}
+
+/** Tries papers of which one is wrong, here or in a worker. */
+async function checkWrongPapers(papers) {
+  const noted = { ...KEY, expect: "df41d8fe" };
+  for (const paper of [ONE, CONFLICTING, FIVE[1], FIVE[3]]) await papers.add(paper);
+  await assert.rejects(async () => papers.recover(noted), { code: 51, details: [0, 0] });
+  await papers.add(`${FIVE[4]}\n`);
+  const two = ["0.0+0.1+1.0", "0.0+0.1+2.0"];
+  assert.deepEqual(await papers.recover(noted), recovered(two, ["0.0", "0.1"]));
+  await assert.rejects(async () => papers.recover({ ...KEY, expect: "00000000" }), { code: 52 });
+  await papers.add(FIVE[2]);
+  assert.deepEqual(await papers.recover(KEY), recovered([...two, "0.0+0.2+1.0", "0.0+0.2+2.0"], ["0.0"]));
+  assert.deepEqual([await papers.remove(1, "0.3"), await papers.remove(2, "0.0"), papers.enough], [false, false, true]);
+  await assert.rejects(async () => papers.add(FIVE[0]), { code: 28 });
+  const [forged] = papers.lines(1);
+  assert.deepEqual([await papers.remove(1, "0.0"), papers.enough, forged], [true, true, new Uint8Array(forged.length)]);
+  assert.deepEqual([(await papers.add(FIVE[0])).again, await papers.recover(noted)], [false, recovered()]);
+  assert.deepEqual(papers.lines(1), [1, 3, 4, 2, 0].map((it) => bytesOf(FIVE[it])));
+  assert.deepEqual([await papers.remove(7945, "0.0"), papers.ids, papers.enough], [true, [1], true]);
+  for (const [name, isEnough] of [["1.0", true], ["0.1", true], ["0.0", false], ["0.2", false], ["2.0", false]]) {
+    assert.deepEqual([await papers.remove(1, name), papers.enough], [true, isEnough]);
+  }
+  assert.deepEqual(papers.ids, []);
+  await assert.rejects(async () => papers.recover(KEY), { code: 29 });
+}
+
+test("a wrong paper doesn't hide what the others give, and can be taken out", async () => {
+  const shamir = await open(MODULE);
+  await checkWrongPapers(new Papers(shamir));
+  // The doubtful papers come in the order of their numbers.
+  const made = [0, 1, 2, 3].map((it) => shamir.create("2of16", SECRET, { exponent: 0, random: Uint8Array.from(counting(shamir.randomNeeded("2of16", 16)), (_, i) => (i < 2 ? 0 : it)) }));
+  const papers = new Papers(shamir);
+  for (let i = 0; i < 16; i++) papers.add(made[{ 0: 1, 2: 2, 10: 3 }[i] ?? 0][i]);
+  const { secret, failed, doubtful } = papers.recover();
+  assert.deepEqual([secret, failed.length, doubtful], [SECRET, 42, ["0.0", "0.2", "0.10"]]);
+});
+
+test("papers in a worker", async (t) => {
+  const shamir = new InWorker(MODULE);
+  t.after(() => shamir.end());
+  await checkWrongPapers(shamir.papers());
+  const papers = shamir.papers();
+  const told = [];
+  for await (const it of papers.collect([TWO[0], FIVE[3], "academic x", FIVE[3], FIVE[4], ONE])) told.push(it);
+  const first = "groups 1 of 2\ngroup 1 members 1 of 1 1.0";
+  assert.deepEqual(told, ["groups 0 of 1\ngroup 0 members 1 of 2 0.2", first, "11 unknown word 2", `again\n${first}`, `${first.replace("1", "2")}\ngroup 2 members 1 of 1 2.0`]);
+  assert.deepEqual([papers.ids, papers.enough], [[25653, 1], true]);
+  await assert.rejects(papers.add(7), TypeError);
+  await assert.rejects(papers.recover(KEY, AbortSignal.abort()), { name: "AbortError" });
+  // The papers stay if the worker ends, and what is asked for together is done one after the other, with the arguments of its call.
+  shamir.end();
+  const given = [bytesOf(FIVE[0]), bytesOf(FIVE[0])];
+  const both = given.map((line) => papers.add(line));
+  for (const it of given) it.fill(0);
+  assert.deepEqual((await Promise.all(both)).map(({ again }) => again), [false, true]);
+  assert.deepEqual(await papers.recover(KEY), recovered());
+  const lines = papers.lines(1);
+  await papers.clear();
+  assert.deepEqual([papers.ids, papers.enough, lines.every((line) => line.every((byte) => byte === 0))], [[], false, true]);
+});
+
+test("a drill with its progress, here and in a worker", async (t) => {
+  const worker = new InWorker(MODULE);
+  t.after(() => worker.end());
+  const found = [];
+  for await (const { names, number, quorums, expected } of drillWithProgress(worker, FIVE, { ...KEY, expect: "df41d8fe" })) found.push([names, number, quorums, expected]);
+  assert.deepEqual(found, FIVE_QUORUMS.map((names, i) => [names, i + 1, 7n, true]));
+  for (const engine of [worker, await open(MODULE)]) {
+    const stopped = new AbortController();
+    const drill = drillWithProgress(engine, FIVE, KEY, stopped.signal);
+    assert.equal((await drill.next()).value.number, 1);
+    stopped.abort();
+    await assert.rejects(drill.next(), { name: "AbortError" });
+  }
 });
 
 test("a drill with its progress", async () => {

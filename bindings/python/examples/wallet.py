@@ -19,9 +19,16 @@ def make(passphrase: str, plan: str) -> None:
 def recover(passphrase: str, noted: str) -> None:
     papers = shamir.Papers()
     for paper in sys.stdin:
-        print(papers.add_and_tell(paper.strip()))
-        if papers.enough:
-            return print("fingerprint", shamir.fingerprint(papers.recover(passphrase=passphrase, expect=noted)))
+        print(papers.add_and_tell(paper))
+        if not papers.enough:
+            continue
+        try:
+            found = papers.recover(passphrase=passphrase, expect=noted)
+            return print(*(f"doubtful {name}" for name in found.doubtful), f"fingerprint {shamir.fingerprint(found.secret)}", sep="\n")
+        except shamir.Refusal as refusal:
+            if refusal.code != shamir.Code.DIGEST_MISMATCH:
+                raise
+            print(refusal)
     sys.exit("more papers are needed")
 
 

@@ -39,6 +39,7 @@ from __future__ import annotations
 import array
 import ctypes
 import enum
+import itertools
 import mmap
 import operator
 import os
@@ -46,8 +47,8 @@ import pathlib
 from dataclasses import dataclass, field
 from typing import Any, Callable, Dict, Generator, Iterable, List, Optional, Tuple, Union, cast
 
-__all__ = ["Code", "Data", "EXPONENT_MAX", "EncryptedSecret", "GroupStatus", "Judgement", "Lines", "OF_GROUPS", "Outcome", "Papers", "Refusal"]
-__all__ += ["Share", "ShareFields", "Status", "Text"]
+__all__ = ["ClearableLines", "Code", "Data", "EXPONENT_MAX", "EncryptedSecret", "GroupStatus", "Judgement", "Lines", "OF_GROUPS", "Outcome", "Papers"]
+__all__ += ["Recovered", "Refusal", "SECRET_BYTES_MAX", "Share", "ShareFields", "Status", "Text"]
 __all__ += ["create", "create_from_encrypted", "decrypt", "decrypt_into", "decrypt_round", "decrypt_rounds", "drill", "encrypted", "encrypted_into"]
 __all__ += ["fingerprint", "judge"]
 __all__ += ["library_version", "parse", "quorums", "random_needed", "recover", "recover_into", "reissue", "repair", "resplit", "status", "words"]
@@ -63,14 +64,16 @@ Lines = Union[Text, Iterable[Text]]
 # The same without a str, which can't be cleared.
 ClearableLines = Union[Data, Iterable[Data]]
 
-# These buffer lengths are always enough. Their names are those of shamir.h.
+# The maximum length of a secret, and of the value of a mnemonic.
 SECRET_BYTES_MAX = 128
-MNEMONICS_BYTES_MAX = 253440
-STATUS_BYTES_MAX = 1638
-FINGERPRINT_BYTES_MAX = 8
-WORDS_BYTES_MAX = 7231
-REPAIRED_BYTES_MAX = 1980
-TEXT_BYTES_MAX = 64
+
+# These buffer lengths are always enough. Their names are those of shamir.h.
+_MNEMONICS_BYTES_MAX = 253440
+_STATUS_BYTES_MAX = 1638
+_FINGERPRINT_BYTES_MAX = 8
+_WORDS_BYTES_MAX = 7231
+_REPAIRED_BYTES_MAX = 1980
+_TEXT_BYTES_MAX = 64
 
 # The maximum iteration exponent.
 EXPONENT_MAX = 15
@@ -80,15 +83,17 @@ EXPONENT_MAX = 15
 OF_GROUPS = 16
 
 # The forms in which a drill tells secrets: their digits, their fingerprints, or whether one is expected.
-FORM_DIGITS = 0
-FORM_FINGERPRINTS = 1
-FORM_EXPECTED = 2
+_FORM_DIGITS = 0
+_FORM_FINGERPRINTS = 1
+_FORM_EXPECTED = 2
 
 # `resplit` and `create_from_encrypted` draw random bytes so often at most. One draw in 32,768 gives the identifier of the old backup.
-DRAWS = 10
-DRILL_ROOM = 1 << 16
-LIMIT_MAX = (1 << 32) - 1
-MORE = b"more after "
+_DRAWS = 10
+_DRILL_ROOM = 1 << 16
+_LIMIT_MAX = (1 << 32) - 1
+# `Papers.recover` tries so many quorums at most.
+_QUORUMS_TRIED = 1 << 16
+_MORE = b"more after "
 
 
 class Code(enum.IntEnum):
@@ -248,8 +253,8 @@ def _loaded() -> ctypes.CDLL:
 
 
 def _version_of(library: ctypes.CDLL) -> str:
-    buffer = ctypes.create_string_buffer(TEXT_BYTES_MAX)
-    written = library.shamir_version(buffer, TEXT_BYTES_MAX).written
+    buffer = ctypes.create_string_buffer(_TEXT_BYTES_MAX)
+    written = library.shamir_version(buffer, _TEXT_BYTES_MAX).written
     return buffer.raw[:written].decode("ascii", "replace")
 
 
@@ -462,19 +467,29 @@ class Judgement:
         return f"again\n{self.status}" if self.again else str(self.status)
 
 
-def _data(data: Data) -> bytes:
-    """Return the bytes that the object really holds, even if a subclass reports another length.
+def _view(data: Data, name: str, wanted: str = "an object with the buffer protocol") -> memoryview:
+    """Return a view of what an argument of this name holds.
 
     Raise TypeError if the object lacks the buffer protocol, and ValueError if its memory is no longer there.
     """
-    return memoryview(data).tobytes()
+    try:
+        return memoryview(data)
+    except TypeError:
+        raise TypeError(f"{name} isn't {wanted}, but of type {type(data).__name__}") from None
+    except ValueError:
+        raise ValueError(f"the memory of {name} is no longer there") from None
 
 
-def _bytes(text: Text) -> bytes:
-    return _encoded(text) if isinstance(text, str) else _data(text)
+def _data(data: Data, name: str) -> bytes:
+    """Return the bytes that the object really holds, even if a subclass reports another length."""
+    return _view(data, name).tobytes()
 
 
-def _encoded(text: str) -> bytes:
+def _bytes(text: Text, name: str) -> bytes:
+    return _encoded(text, name) if isinstance(text, str) else _view(text, name, "a text").tobytes()
+
+
+def _encoded(text: str, name: str) -> bytes:
     """Return a str in UTF-8, or raise ValueError if a lone surrogate is in it.
 
     A strict `str.encode` would raise a UnicodeEncodeError, which holds the text. Here nothing raises one, so none is the context
@@ -482,7 +497,7 @@ def _encoded(text: str) -> bytes:
     """
     data = str.encode(text, "utf-8", "surrogatepass")
     if data != str.encode(text, "utf-8", "ignore"):
-        raise ValueError("a text has a lone surrogate, which UTF-8 can't encode")
+        raise ValueError(f"{name} has a lone surrogate, which UTF-8 can't encode")
     return data
 
 
@@ -490,18 +505,21 @@ def _slice(data: bytes) -> Tuple[bytes, int]:
     return data, len(data)
 
 
-def _number(number: int, kind: Any) -> int:
+def _number(number: int, kind: Any, name: str) -> int:
     """Return the number, or raise OverflowError if it doesn't fit this C type. ctypes would truncate it silently."""
-    whole, bits = operator.index(number), 8 * ctypes.sizeof(kind)
+    try:
+        whole, bits = operator.index(number), 8 * ctypes.sizeof(kind)
+    except TypeError:
+        raise TypeError(f"{name} isn't a whole number, but of type {type(number).__name__}") from None
     if not 0 <= whole < 1 << bits:
         # The number itself can have so many digits that Python refuses to print them.
-        raise OverflowError(f"a number isn't from 0 to 2**{bits} - 1")
+        raise OverflowError(f"{name} isn't from 0 to 2**{bits} - 1")
     return whole
 
 
-def _flag(flag: bool) -> int:
+def _flag(flag: bool, name: str) -> int:
     if not isinstance(flag, bool):
-        raise TypeError(f"a flag is True or False, and not of type {type(flag).__name__}")
+        raise TypeError(f"{name} isn't True or False, but of type {type(flag).__name__}")
     return int(flag)
 
 
@@ -512,8 +530,8 @@ def _code(number: int) -> Union[Code, int]:
 
 def _checked(answer: _Answer) -> _Answer:
     if answer.code:
-        room = ctypes.create_string_buffer(TEXT_BYTES_MAX)
-        told = _library.shamir_text(ctypes.byref(answer), room, TEXT_BYTES_MAX)
+        room = ctypes.create_string_buffer(_TEXT_BYTES_MAX)
+        told = _library.shamir_text(ctypes.byref(answer), room, _TEXT_BYTES_MAX)
         text = "no memory for the text" if told.code else room.raw[: told.written].decode()
         raise Refusal(_code(answer.code), answer.line or None, (answer.first, answer.second), text)
     return answer
@@ -537,27 +555,45 @@ def _filled(call: _Call, room: int) -> bytes:
     return _answered(call, room)[0]
 
 
-def _line(number: int, text: Text) -> bytes:
+def _bare(line: bytes) -> bytes:
+    """Return a line without the line feed that may end it. The library takes none."""
+    return line[:-1] if line.endswith(b"\n") else line
+
+
+def _one_line(line: bytes, name: str) -> bytes:
     """Return a line of a list without its line feed, or raise ValueError if another line feed is in it."""
-    line = _bytes(text)
-    line = line[:-1] if line.endswith(b"\n") else line
+    line = _bare(line)
     if b"\n" in line:
-        raise ValueError(f"line {number} of the list holds a line feed, so it is several lines")
+        raise ValueError(f"{name} holds a line feed, so it is several lines")
     return line
 
 
-def _lends(lines: Lines) -> bool:
+def _is_one_text(lines: Union[Lines, ClearableLines]) -> bool:
+    if isinstance(lines, str):
+        return True
     try:
         memoryview(lines)  # type: ignore[arg-type]
     except TypeError:
         return False
+    except ValueError:
+        # Whoever reads it says that its memory is no longer there.
+        return True
     return True
 
 
+def _numbered(lines: Union[Lines, ClearableLines]) -> Iterable[Tuple[str, Any]]:
+    """Return the lines of a list, each with what an error calls it."""
+    try:
+        all_lines = iter(cast(Iterable[Any], lines))
+    except TypeError:
+        raise TypeError(f"lines isn't a text or an iterable of lines, but of type {type(lines).__name__}") from None
+    return ((f"line {number} of the list", line) for number, line in enumerate(all_lines, 1))
+
+
 def _joined(lines: Lines) -> bytes:
-    if isinstance(lines, str) or _lends(lines):
-        return _bytes(cast(Text, lines))
-    return b"\n".join(_line(number, line) for number, line in enumerate(cast(Iterable[Text], lines), 1))
+    if _is_one_text(lines):
+        return _bytes(cast(Text, lines), "lines")
+    return b"\n".join(_one_line(_bytes(line, name), name) for name, line in _numbered(lines))
 
 
 class _Copies:
@@ -593,52 +629,57 @@ class _Copies:
             at += 1
         return copy, length
 
-    def data(self, data: Data) -> Tuple[Any, int]:
-        return self.joined([memoryview(data)])
+    def data(self, data: Data, name: str) -> Tuple[Any, int]:
+        return self.joined([_view(data, name)])
+
+    def line(self, line: Text, name: str) -> Tuple[Any, int]:
+        """Return a copy of a line, and its length without the line feed that may end it, as `_bare` returns it."""
+        copy, length = self.data(_encoded(line, name) if isinstance(line, str) else line, name)
+        return copy, length - (copy[length - 1 : length] == b"\n")
 
     def lines(self, lines: ClearableLines) -> Tuple[Any, int]:
-        if isinstance(lines, str) or _lends(lines):
-            return self.data(cast(Data, lines))
+        if _is_one_text(lines):
+            return self.data(cast(Data, lines), "lines")
         # Each line is copied before the next one is asked for: an iterator may use its buffer again.
-        parts = [_whole_line(number, memoryview(self.data(line)[0])) for number, line in enumerate(cast(Iterable[Data], lines), 1)]
-        return self.joined(parts) if parts else self.data(b"")
+        parts = [self._one_line(line, name) for name, line in _numbered(lines)]
+        return self.joined(parts) if parts else self.data(b"", "lines")
 
-
-def _whole_line(number: int, line: memoryview) -> memoryview:
-    """Return a line as `_line` does, without a copy."""
-    # A view without bytes can't be cast.
-    line = line.cast("B") if line.nbytes else memoryview(b"")
-    line = line[:-1] if line.nbytes and line[-1] == ord("\n") else line
-    if ord("\n") in line:
-        raise ValueError(f"line {number} of the list holds a line feed, so it is several lines")
-    return line
+    def _one_line(self, line: Data, name: str) -> memoryview:
+        """Return a line of a list as `_one_line` does, in a copy that is cleared."""
+        _view(line, name)
+        copy, length = self.line(line, name)
+        # A view without bytes can't be cast.
+        view = memoryview(copy).cast("B")[:length] if length else memoryview(b"")
+        if ord("\n") in view:
+            raise ValueError(f"{name} holds a line feed, so it is several lines")
+        return view
 
 
 def _room(room: bytearray) -> Tuple[Any, int]:
     """Return a bytearray as the output of a call, which gets its address."""
-    length = memoryview(room).nbytes
+    length = _view(room, "room").nbytes
     return (ctypes.c_char * length).from_buffer(room), length
 
 
 def library_version() -> str:
     """Return the version of the library. `__version__` is the version of the package."""
-    return _filled(_library.shamir_version, TEXT_BYTES_MAX).decode()
+    return _filled(_library.shamir_version, _TEXT_BYTES_MAX).decode()
 
 
 def parse(mnemonic: Text) -> Share:
-    """Read one mnemonic, which is a line without its line feed, and return its fields and its value.
+    """Read one mnemonic, which is a line, and return its fields and its value. A line feed may end it.
 
     >>> shamir.parse(mnemonics[2]).member_index
     2
 
     Raises `Refusal` with one of the codes 11 to 15.
     """
-    fields, line = _Share(), _bytes(mnemonic)
+    fields, line = _Share(), _bare(_bytes(mnemonic, "mnemonic"))
     value = _filled(lambda out, room: _library.shamir_parse(*_slice(line), ctypes.byref(fields), out, room), SECRET_BYTES_MAX)
-    return Share(**_fields(fields), value=value)
+    return Share(**_share_fields(fields), value=value)
 
 
-def _fields(share: _Share) -> Dict[str, Any]:
+def _share_fields(share: _Share) -> Dict[str, Any]:
     found = {name: getattr(share, name) for name, *_ in _Share._fields_}
     return {**found, "extendable": bool(found["extendable"])}
 
@@ -651,7 +692,7 @@ def random_needed(plan: Text, secret_bytes: int) -> int:
 
     Raises `Refusal` with one of the codes 31 to 34, or 42.
     """
-    return _checked(_library.shamir_random_needed(*_slice(_bytes(plan)), _number(secret_bytes, ctypes.c_size_t))).first
+    return _checked(_library.shamir_random_needed(*_slice(_bytes(plan, "plan")), _number(secret_bytes, ctypes.c_size_t, "secret_bytes"))).first
 
 
 def create(
@@ -676,11 +717,11 @@ def create(
 
     Raises `Refusal` with one of the codes 2, 31 to 34, or 41 to 43.
     """
-    text, key, whole = _bytes(plan), _bytes(passphrase), _data(secret)
-    options = _number(exponent, ctypes.c_uint32), _flag(extendable)
-    drawn = _random_for(text, len(whole)) if random is None else _data(random)
+    text, key, whole = _bytes(plan, "plan"), _bytes(passphrase, "passphrase"), _data(secret, "secret")
+    options = _number(exponent, ctypes.c_uint32, "exponent"), _flag(extendable, "extendable")
+    drawn = _random_for(text, len(whole)) if random is None else _data(random, "random")
     given = _slice(text) + _slice(whole) + _slice(key) + options + _slice(drawn)
-    return _filled(lambda out, room: _library.shamir_create(*given, out, room), MNEMONICS_BYTES_MAX).decode().splitlines()
+    return _filled(lambda out, room: _library.shamir_create(*given, out, room), _MNEMONICS_BYTES_MAX).decode().splitlines()
 
 
 def _random_for(plan: bytes, secret_bytes: int) -> bytes:
@@ -697,7 +738,7 @@ def _expected(expect: Optional[Text]) -> bytes:
     For the library no digits mean that nothing is compared. An empty `expect` isn't a fingerprint here: a hyphen, which the
     library refuses, takes its place.
     """
-    return b"" if expect is None else _bytes(expect) or b"-"
+    return b"" if expect is None else _bytes(expect, "expect") or b"-"
 
 
 def recover(
@@ -721,7 +762,7 @@ def recover(
 
     Raises `Refusal` with one of the codes 3, 11 to 30, 41, 44, 51, 52 or 71.
     """
-    options = _slice(_bytes(passphrase)) + (_number(max_exponent, ctypes.c_uint32),) + _slice(_expected(expect))
+    options = _slice(_bytes(passphrase, "passphrase")) + (_number(max_exponent, ctypes.c_uint32, "max_exponent"),) + _slice(_expected(expect))
     given = _slice(_joined(lines)) + options
     return _filled(lambda out, room: _library.shamir_recover(*given, out, room), SECRET_BYTES_MAX)
 
@@ -759,7 +800,7 @@ def recover_into(
     Raises `Refusal` as `recover` does, and with the code 1 if the bytearray is too short. Then it is unchanged.
     """
     with _Copies() as own:
-        options = own.data(passphrase) + (_number(max_exponent, ctypes.c_uint32),) + _slice(_expected(expect))
+        options = own.data(passphrase, "passphrase") + (_number(max_exponent, ctypes.c_uint32, "max_exponent"),) + _slice(_expected(expect))
         return _checked(_library.shamir_recover(*own.lines(lines), *options, *_room(room))).written
 
 
@@ -786,7 +827,7 @@ def decrypt(secret: EncryptedSecret, *, passphrase: Text = b"", expect: Optional
     Raises `Refusal` with one of the codes 2 (a field is out of range), 41, 42, 44 or 52.
     """
     parameters = _parameters(secret)
-    given = _slice(_data(secret.value)) + _slice(_bytes(passphrase)) + _slice(_expected(expect))
+    given = _slice(_data(secret.value, "secret.value")) + _slice(_bytes(passphrase, "passphrase")) + _slice(_expected(expect))
     return _filled(lambda out, room: _library.shamir_decrypt(ctypes.byref(parameters), *given, out, room), SECRET_BYTES_MAX)
 
 
@@ -800,7 +841,7 @@ def decrypt_into(room: bytearray, secret: EncryptedSecret, *, passphrase: Data =
     """
     parameters = _parameters(secret)
     with _Copies() as own:
-        given = own.data(secret.value) + own.data(passphrase) + _slice(_expected(expect))
+        given = own.data(secret.value, "secret.value") + own.data(passphrase, "passphrase") + _slice(_expected(expect))
         return _checked(_library.shamir_decrypt(ctypes.byref(parameters), *given, *_room(room))).written
 
 
@@ -812,8 +853,8 @@ def decrypt_round(secret: EncryptedSecret, round: int, *, passphrase: Text = b""
 
     Raises `Refusal` with one of the codes 2 (a field is out of range, or the round is above 3), 41 or 42.
     """
-    parameters, number = _parameters(secret), _number(round, ctypes.c_uint8)
-    given = _slice(_data(secret.value)) + _slice(_bytes(passphrase))
+    parameters, number = _parameters(secret), _number(round, ctypes.c_uint8, "round")
+    given = _slice(_data(secret.value, "secret.value")) + _slice(_bytes(passphrase, "passphrase"))
     return _filled(lambda out, room: _library.shamir_decrypt_round(ctypes.byref(parameters), number, *given, out, room), SECRET_BYTES_MAX)
 
 
@@ -837,7 +878,7 @@ def decrypt_rounds(secret: EncryptedSecret, *, passphrase: Text = b"") -> Genera
     """
     parameters = _parameters(secret)
     with _Copies() as own:
-        text, key = own.data(secret.value), own.data(_encoded(passphrase) if isinstance(passphrase, str) else passphrase)
+        text, key = own.data(secret.value, "secret.value"), own.data(_encoded(passphrase, "passphrase") if isinstance(passphrase, str) else passphrase, "passphrase")
         for number in (3, 2, 1, 0):
             room = own.room(SECRET_BYTES_MAX)
             given = (*text, *key, room, SECRET_BYTES_MAX)
@@ -847,8 +888,10 @@ def decrypt_rounds(secret: EncryptedSecret, *, passphrase: Text = b"") -> Genera
 
 def _parameters(secret: EncryptedSecret) -> _Parameters:
     if not isinstance(secret, EncryptedSecret):
-        raise TypeError(f"an encrypted secret isn't of type {type(secret).__name__}")
-    return _Parameters(_number(secret.id, ctypes.c_uint16), _flag(secret.extendable), _number(secret.exponent, ctypes.c_uint8))
+        raise TypeError(f"secret isn't an EncryptedSecret, but of type {type(secret).__name__}")
+    return _Parameters(
+        _number(secret.id, ctypes.c_uint16, "secret.id"), _flag(secret.extendable, "secret.extendable"), _number(secret.exponent, ctypes.c_uint8, "secret.exponent")
+    )
 
 
 def drill(
@@ -882,15 +925,15 @@ def drill(
 
     Raises `Refusal` with one of the codes 3, 11 to 30, 41, 44, 61, 62 or 71.
     """
-    data, key = _joined(lines), _bytes(passphrase)
+    data, key = _joined(lines), _bytes(passphrase, "passphrase")
     form = _form(fingerprints, expect)
-    expect = None if expect is None else _bytes(expect)
-    listing = _listed(data, key, after, LIMIT_MAX, form, expect, max_exponent)
+    expect = None if expect is None else _bytes(expect, "expect")
+    listing = _listed(data, key, after, _LIMIT_MAX, form, expect, max_exponent)
     while True:
         yield from (_outcome(line, form) for line in listing.outcomes.splitlines())
         if listing.cursor is None:
             return
-        listing = _listed(data, key, listing.cursor, LIMIT_MAX, form, expect, max_exponent)
+        listing = _listed(data, key, listing.cursor, _LIMIT_MAX, form, expect, max_exponent)
 
 
 @dataclass(frozen=True, repr=False)
@@ -913,20 +956,20 @@ def _listed(
     """Return the part of a drill after a quorum. It has at most `limit` quorums, and as many as fit into 64 KiB of output."""
     # For the library an empty cursor is the start. An empty `after` isn't a cursor here: a plus sign, which the library
     # refuses as a cursor, takes its place.
-    cursor = b"" if after is None else _bytes(after) or b"+"
-    options = _slice(key) + (_number(max_exponent, ctypes.c_uint32),) + _slice(cursor)
+    cursor = b"" if after is None else _bytes(after, "after") or b"+"
+    options = _slice(key) + (_number(max_exponent, ctypes.c_uint32, "max_exponent"),) + _slice(cursor)
     given = _slice(data) + options + (limit, form) + _slice(_expected(expect))
-    text, answer = _answered(lambda out, room: _library.shamir_drill(*given, out, room), DRILL_ROOM)
+    text, answer = _answered(lambda out, room: _library.shamir_drill(*given, out, room), _DRILL_ROOM)
     # The answer says where the last line begins.
     outcomes, last = text[: answer.second], text[answer.second :]
-    following = last[len(MORE) :].rstrip(b"\n") if last.startswith(MORE) else None
+    following = last[len(_MORE) :].rstrip(b"\n") if last.startswith(_MORE) else None
     return _Listing(outcomes, last, following, answer.first, answer.mismatches)
 
 
 def _form(fingerprints: bool, expect: Optional[Text]) -> int:
-    if _flag(fingerprints) and expect is not None:
+    if _flag(fingerprints, "fingerprints") and expect is not None:
         raise ValueError("expect and fingerprints can't be given together")
-    return FORM_FINGERPRINTS if fingerprints else FORM_DIGITS if expect is None else FORM_EXPECTED
+    return _FORM_FINGERPRINTS if fingerprints else _FORM_DIGITS if expect is None else _FORM_EXPECTED
 
 
 def _outcome(line: bytes, form: int) -> Outcome:
@@ -937,7 +980,7 @@ def _outcome(line: bytes, form: int) -> Outcome:
     """
     names, *found = line.decode().split(" ")
     if len(found) == 1:
-        return Outcome(names, None, fingerprint=found[0]) if form == FORM_FINGERPRINTS else Outcome(names, bytes.fromhex(found[0]))
+        return Outcome(names, None, fingerprint=found[0]) if form == _FORM_FINGERPRINTS else Outcome(names, bytes.fromhex(found[0]))
     if len(found) == 2:
         return Outcome(names, None, expected=found == ["as", "expected"])
     return Outcome(names, None, OF_GROUPS if found[-1] == "groups" else int(found[-1]))
@@ -955,7 +998,7 @@ def status(lines: Lines) -> Status:
     Raises `Refusal` with one of the codes 11 to 29 or 71.
     """
     given = _slice(_joined(lines))
-    return _status(_filled(lambda out, room: _library.shamir_status(*given, out, room), STATUS_BYTES_MAX))
+    return _status(_filled(lambda out, room: _library.shamir_status(*given, out, room), _STATUS_BYTES_MAX))
 
 
 def _status(text: bytes) -> Status:
@@ -988,16 +1031,37 @@ def judge(lines: Lines, mnemonic: Text) -> Judgement:
     """
     found = _Judgement()
     with _Copies() as own:
-        given = own.lines(_clearable(lines)) + own.data(_encoded(mnemonic) if isinstance(mnemonic, str) else mnemonic)
-        text = _filled(lambda out, room: _library.shamir_judge(*given, ctypes.byref(found), out, room), STATUS_BYTES_MAX)
-    return Judgement(ShareFields(**_fields(found.share)), bool(found.again), _status(text))
+        given = own.lines(_clearable(lines)) + own.line(mnemonic, "mnemonic")
+        text = _filled(lambda out, room: _library.shamir_judge(*given, ctypes.byref(found), out, room), _STATUS_BYTES_MAX)
+    return Judgement(ShareFields(**_share_fields(found.share)), bool(found.again), _status(text))
 
 
 def _clearable(lines: Lines) -> ClearableLines:
     """Return lines without a str among them. What isn't a str isn't copied."""
-    if isinstance(lines, str) or _lends(lines):
-        return _encoded(lines) if isinstance(lines, str) else cast(Data, lines)
-    return (_encoded(line) if isinstance(line, str) else line for line in cast(Iterable[Text], lines))
+    if _is_one_text(lines):
+        return _encoded(lines, "lines") if isinstance(lines, str) else cast(Data, lines)
+    return (_encoded(line, name) if isinstance(line, str) else line for name, line in _numbered(lines))
+
+
+@dataclass(frozen=True)
+class Recovered:
+    """What `Papers.recover` gives: the secret, and what the recovery shows of the papers.
+
+    If the first quorum is right, no other one is tried, and nothing is shown. Otherwise `failed` are the names of the quorums of
+    which a digest doesn't match, such as `0.0+0.1`. `doubtful` are the names of the papers that are in a quorum that failed, and in
+    none that is right: the wrong ones are among them. The repr leaves out the secret.
+    """
+
+    secret: bytes = field(repr=False)
+    failed: Tuple[str, ...] = ()
+    doubtful: Tuple[str, ...] = ()
+
+
+@dataclass(frozen=True, repr=False)
+class _Paper:
+    id: int
+    name: str
+    line: bytearray
 
 
 class Papers:
@@ -1010,7 +1074,7 @@ class Papers:
     group 0 members 1 of 2 0.0
     groups 1 of 1
     group 0 members 2 of 2 0.0+0.1
-    >>> papers.enough, papers.recover(passphrase="TREZOR") == secret
+    >>> papers.enough, papers.recover(passphrase="TREZOR").secret == secret
     (True, True)
 
     If the first papers are of another backup than the rest, they stay apart from it. The lines are bytearrays, which `clear` and the
@@ -1018,9 +1082,10 @@ class Papers:
     """
 
     def __init__(self) -> None:
-        self._kept: List[Tuple[int, bytearray]] = []
-        # What the mnemonic that came last is.
-        self._last: Optional[Judgement] = None
+        self._kept: List[_Paper] = []
+        # The identifier of the mnemonic that came last, and whether its backup has enough.
+        self._last: Optional[int] = None
+        self._enough = False
 
     def __enter__(self) -> Papers:
         return self
@@ -1033,12 +1098,26 @@ class Papers:
 
         It is kept in lower-case words with single spaces. If it is refused, `Refusal` is raised, and nothing is kept.
         """
-        data = _encoded(mnemonic) if isinstance(mnemonic, str) else mnemonic
-        found = judge((line for _, line in self._kept), data)
+        found = judge((paper.line for paper in self._kept), mnemonic)
+        share = found.share
         if not found.again:
-            self._kept.append((found.share.id, _respelled(data)))
-        self._last = found
+            self._kept.append(_Paper(share.id, f"{share.group_index}.{share.member_index}", _respelled(mnemonic)))
+        self._last, self._enough = share.id, found.status.enough
         return found
+
+    def remove(self, id: int, name: str) -> bool:
+        """Take out the mnemonic with this name, such as `0.1`, in the backup with an identifier, clear it, and return whether it was here.
+
+        So a forged one can make room for the right one, which is refused with 28 beside it.
+        """
+        left = [paper for paper in self._kept if (paper.id, paper.name) != (id, name)]
+        lines = [paper.line for paper in left if paper.id == self._last]
+        is_enough = bool(lines) and _has_quorum(lines)
+        taken_out = [paper for paper in self._kept if (paper.id, paper.name) == (id, name)]
+        self._kept, self._enough = left, is_enough
+        for paper in taken_out:
+            _library.shamir_wipe(*_room(paper.line))
+        return bool(taken_out)
 
     def add_and_tell(self, mnemonic: Text) -> str:
         """Do as `add`, and return the text of the judgement, or of the refusal, which isn't raised."""
@@ -1050,38 +1129,64 @@ class Papers:
     @property
     def enough(self) -> bool:
         """Whether the backup of the mnemonic that came last has enough for `recover`. A mnemonic that is refused changes nothing."""
-        return self._last is not None and self._last.status.enough
+        return self._enough
 
-    def recover(self, *, passphrase: Text = b"", max_exponent: int = EXPONENT_MAX, expect: Optional[Text] = None) -> bytes:
-        """Recover the secret of the backup of the mnemonic that came last, as the function `recover` does.
+    def recover(self, *, passphrase: Text = b"", max_exponent: int = EXPONENT_MAX, expect: Optional[Text] = None) -> Recovered:
+        """Recover the secret of the backup of the mnemonic that came last, and return what that shows of its papers.
+
+        If a digest of the first quorum doesn't match, the other quorums are tried too, but at most 65,536, and the secret is that of the
+        first whose digests match. So one wrong paper doesn't hide what the others give. If none matches, the refusal is that of the
+        first quorum (51). Otherwise this raises what the function `recover` raises.
 
         Like that function, it leaves copies of the mnemonics behind. `recover_into` of `lines` leaves none.
         """
-        lines = self.lines(self._last.share.id) if self._last else []
-        return recover(lines, passphrase=passphrase, max_exponent=max_exponent, expect=expect)
+        papers = [paper for paper in self._kept if paper.id == self._last]
+        lines = [paper.line for paper in papers]
+        try:
+            return Recovered(recover(lines, passphrase=passphrase, max_exponent=max_exponent, expect=expect))
+        except Refusal as refusal:
+            if refusal.code != Code.DIGEST_MISMATCH:
+                raise
+            first = refusal
+        tried = drill(lines, passphrase=passphrase, max_exponent=max_exponent, fingerprints=True)
+        outcomes = list(itertools.islice(tried, _QUORUMS_TRIED))
+        failed, right = ([it.names.split("+") for it in outcomes if (it.mismatch is not None) == is_failed] for is_failed in (True, False))
+        if not right:
+            raise first
+        chosen = [paper.line for paper in papers if paper.name in right[0]]
+        secret = recover(chosen, passphrase=passphrase, max_exponent=max_exponent, expect=expect)
+        doubtful = set(itertools.chain(*failed)).difference(*right)
+        in_order = sorted(doubtful, key=lambda name: [int(number) for number in name.split(".")])
+        return Recovered(secret, tuple(map("+".join, failed)), tuple(in_order))
 
     @property
     def ids(self) -> List[int]:
         """The identifiers of the backups, in the order in which they came."""
-        return list(dict.fromkeys(id for id, _ in self._kept))
+        return list(dict.fromkeys(paper.id for paper in self._kept))
 
     def lines(self, id: int) -> List[bytearray]:
         """Return the mnemonics of the backup with an identifier, as they came. The calls that take lines take them. They are the
         object's own: `clear` clears them."""
-        return [line for other, line in self._kept if other == id]
+        return [paper.line for paper in self._kept if paper.id == id]
 
     def clear(self) -> None:
         """Clear all lines, and forget them."""
-        for _, line in self._kept:
-            _library.shamir_wipe(*_room(line))
-        self._kept, self._last = [], None
+        for paper in self._kept:
+            _library.shamir_wipe(*_room(paper.line))
+        self._kept, self._last, self._enough = [], None, False
 
 
-def _respelled(mnemonic: Data) -> bytearray:
+def _has_quorum(lines: List[bytearray]) -> bool:
+    """Return whether mnemonics of one backup have a quorum. No copy of them is left."""
+    with _Copies() as own:
+        return _checked(_library.shamir_quorums(*own.lines(lines))).first > 0
+
+
+def _respelled(mnemonic: Text) -> bytearray:
     """Return a mnemonic as the library writes it, in a bytearray of its own. No other copy is left."""
     with _Copies() as own:
-        room = own.room(REPAIRED_BYTES_MAX)
-        answer = _checked(_library.shamir_repair(*own.data(mnemonic), room, REPAIRED_BYTES_MAX))
+        room = own.room(_REPAIRED_BYTES_MAX)
+        answer = _checked(_library.shamir_repair(*own.line(mnemonic, "mnemonic"), room, _REPAIRED_BYTES_MAX))
         return bytearray(memoryview(room)[: answer.written - 1])
 
 
@@ -1115,8 +1220,8 @@ def reissue(plan: Text, names: Text, lines: Lines) -> List[str]:
 
     Raises `Refusal` with one of the codes 11 to 29, 31 to 34, 51, 63 to 66 or 71.
     """
-    given = _slice(_bytes(plan)) + _slice(_bytes(names)) + _slice(_joined(lines))
-    return _filled(lambda out, room: _library.shamir_reissue(*given, out, room), MNEMONICS_BYTES_MAX).decode().splitlines()
+    given = _slice(_bytes(plan, "plan")) + _slice(_bytes(names, "names")) + _slice(_joined(lines))
+    return _filled(lambda out, room: _library.shamir_reissue(*given, out, room), _MNEMONICS_BYTES_MAX).decode().splitlines()
 
 
 def resplit(plan: Text, lines: Lines, *, random: Optional[Data] = None) -> List[str]:
@@ -1139,7 +1244,7 @@ def resplit(plan: Text, lines: Lines, *, random: Optional[Data] = None) -> List[
 
     Raises `Refusal` with one of the codes 11 to 34, 43, 51, 67, 68 or 71.
     """
-    return _split(_library.shamir_resplit, _slice(_bytes(plan)) + _slice(_joined(lines)), random)
+    return _split(_library.shamir_resplit, _slice(_bytes(plan, "plan")) + _slice(_joined(lines)), random)
 
 
 def create_from_encrypted(plan: Text, secret: EncryptedSecret, *, random: Optional[Data] = None) -> List[str]:
@@ -1154,17 +1259,17 @@ def create_from_encrypted(plan: Text, secret: EncryptedSecret, *, random: Option
 
     Raises `Refusal` with one of the codes 2 (a field is out of range), 31 to 34, 42, 43, 67 or 68.
     """
-    given = _slice(_bytes(plan)) + (ctypes.byref(_parameters(secret)),) + _slice(_data(secret.value))
+    given = _slice(_bytes(plan, "plan")) + (ctypes.byref(_parameters(secret)),) + _slice(_data(secret.value, "secret.value"))
     return _split(_library.shamir_create_from_encrypted, given, random)
 
 
 def _split(call: Callable[..., _Answer], given: Tuple[Any, ...], random: Optional[Data]) -> List[str]:
-    return _split_anew(call, given, _data(random)) if random is not None else _drawn_split(call, given)
+    return _split_anew(call, given, _data(random, "random")) if random is not None else _drawn_split(call, given)
 
 
 def _split_anew(call: Callable[..., _Answer], given: Tuple[Any, ...], random: bytes) -> List[str]:
     arguments = given + _slice(random)
-    return _filled(lambda out, room: call(*arguments, out, room), MNEMONICS_BYTES_MAX).decode().splitlines()
+    return _filled(lambda out, room: call(*arguments, out, room), _MNEMONICS_BYTES_MAX).decode().splitlines()
 
 
 def _drawn_split(call: Callable[..., _Answer], given: Tuple[Any, ...]) -> List[str]:
@@ -1173,7 +1278,7 @@ def _drawn_split(call: Callable[..., _Answer], given: Tuple[Any, ...]) -> List[s
     if needed.code == Code.NO_MEMORY:
         _checked(needed)
     count = needed.first if needed.code == Code.RANDOM_LENGTH else 0
-    for _ in range(DRAWS - 1):
+    for _ in range(_DRAWS - 1):
         try:
             return _split_anew(call, given, os.urandom(count))
         except Refusal as refusal:
@@ -1198,8 +1303,8 @@ def repair(line: Text) -> List[str]:
     Raises `Refusal` with one of the codes 11 to 15 or 17 to 19. For Code.WRONG_WORD the first detail is the position of
     the wrong word, counted from 1, if just one word is wrong.
     """
-    given = _slice(_bytes(line))
-    return _filled(lambda out, room: _library.shamir_repair(*given, out, room), REPAIRED_BYTES_MAX).decode().splitlines()
+    given = _slice(_bare(_bytes(line, "line")))
+    return _filled(lambda out, room: _library.shamir_repair(*given, out, room), _REPAIRED_BYTES_MAX).decode().splitlines()
 
 
 def fingerprint(secret: Data) -> str:
@@ -1213,8 +1318,8 @@ def fingerprint(secret: Data) -> str:
 
     Raises `Refusal` with the code 42.
     """
-    given = _slice(_data(secret))
-    return _filled(lambda out, room: _library.shamir_fingerprint(*given, out, room), FINGERPRINT_BYTES_MAX).decode()
+    given = _slice(_data(secret, "secret"))
+    return _filled(lambda out, room: _library.shamir_fingerprint(*given, out, room), _FINGERPRINT_BYTES_MAX).decode()
 
 
 def words(letters: Text) -> List[str]:
@@ -1226,5 +1331,5 @@ def words(letters: Text) -> List[str]:
     Upper-case letters count as lower-case ones. No word begins with any other character. Without letters, all 1,024 words are
     returned.
     """
-    given = _slice(_bytes(letters))
-    return _filled(lambda out, room: _library.shamir_words(*given, out, room), WORDS_BYTES_MAX).decode().splitlines()
+    given = _slice(_bytes(letters, "letters"))
+    return _filled(lambda out, room: _library.shamir_words(*given, out, room), _WORDS_BYTES_MAX).decode().splitlines()

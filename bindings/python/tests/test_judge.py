@@ -8,6 +8,7 @@ import pathlib
 import pickle
 import sys
 import unittest
+from unittest import mock
 
 sys.path[:0] = [str(pathlib.Path(__file__).resolve().parent.parent), str(pathlib.Path(__file__).resolve().parent)]
 
@@ -71,7 +72,7 @@ class Judgements(unittest.TestCase):
             (71, None, (0, 0), [WRONG], WRONG.ljust(1025)),
             (12, None, (0, 0), [WRONG], ""),
             (11, None, (1, 0), [], "# a note"),
-            (11, None, (20, 0), [], ONE + "\n"),
+            (11, None, (20, 0), [], ONE + "\n\n"),
             (13, 2, (0, 0), [ONE, WRONG], FIVE[0]),
             (71, 1, (0, 0), ["#" * 1025], FIVE[0]),
             (28, None, (0, 0), [ONE, FIVE[0]], FORGED[0]),
@@ -119,17 +120,75 @@ class Papers(unittest.TestCase):
         ]:
             self.assertEqual((papers.add_and_tell(paper), papers.enough), (told, is_enough))
             if is_enough:
-                self.assertEqual(papers.recover(**noted), SECRET)
+                self.assertEqual(papers.recover(**noted), shamir.Recovered(SECRET))
                 self.assertEqual(refusal_of(papers.recover, passphrase="x", expect="df41d8fe").code, 52)
             else:
                 self.assertEqual(refusal_of(papers.recover).code, 30)
         self.assertEqual(papers.add_and_tell(bytearray(ONE.encode())), "again\ngroups 1 of 1\ngroup 0 members 1 of 1 0.0")
-        self.assertEqual(papers.recover(**noted), SECRET)
+        self.assertEqual(papers.recover(**noted), shamir.Recovered(SECRET, (), ()))
         self.assertEqual(papers.add_and_tell(TWO[1]), "groups 1 of 1\ngroup 0 members 2 of 2 0.0+0.2")
         self.assertEqual(refusal_of(papers.recover, max_exponent=1).code, 3)
         self.assertRaises(TypeError, papers.add_and_tell, 7)
         papers.clear()
         self.assertEqual((papers.enough, refusal_of(papers.recover).code), (False, 29))
+
+    def test_a_wrong_paper_does_not_hide_the_others(self):
+        papers, noted = shamir.Papers(), {"passphrase": "TREZOR", "expect": "df41d8fe"}
+        for paper in [ONE, FORGED[0], FIVE[1], FIVE[3]]:
+            papers.add(paper)
+        refused = refusal_of(papers.recover, **noted)
+        self.assertEqual((refused.code, refused.group), (51, 0))
+        papers.add(FIVE[4] + "\n")
+        two = ("0.0+0.1+1.0", "0.0+0.1+2.0")
+        found = papers.recover(**noted)
+        self.assertEqual(found, shamir.Recovered(SECRET, two, ("0.0", "0.1")))
+        self.assertNotIn(SECRET.hex(), repr(found) + repr(SECRET))
+        self.assertEqual(repr(found), f"Recovered(failed={two}, doubtful=('0.0', '0.1'))")
+        self.assertEqual(papers.recover(passphrase="TREZOR").secret, SECRET)
+        self.assertEqual(refusal_of(papers.recover, passphrase="TREZOR", expect="00000000").code, 52)
+        self.assertEqual(refusal_of(papers.recover, expect="").code, 44)
+        papers.add(FIVE[2])
+        four = (*two, "0.0+0.2+1.0", "0.0+0.2+2.0")
+        self.assertEqual(papers.recover(**noted), shamir.Recovered(SECRET, four, ("0.0",)))
+        # The digest of the group shares.
+        groups = shamir.Papers()
+        for paper in [FIVE[0], FIVE[1], FORGED[2], FIVE[4]]:
+            groups.add(paper)
+        self.assertEqual(groups.recover(**noted), shamir.Recovered(SECRET, ("0.0+0.1+1.0", "1.0+2.0"), ("1.0",)))
+        # Doubtful papers come in the order of their numbers.
+        many = shamir.Papers()
+        right, *others = (shamir.create("2of16", SECRET, exponent=0, random=bytes(2) + bytes([it] * (shamir.random_needed("2of16", 16) - 2))) for it in range(4))
+        for member, line in enumerate(right):
+            many.add(others[(0, 2, 10).index(member)][member] if member in (0, 2, 10) else line)
+        found = many.recover()
+        self.assertEqual((found.secret, found.doubtful, len(found.failed)), (SECRET, ("0.0", "0.2", "0.10"), 120 - 78))
+
+    def test_a_paper_is_taken_out(self):
+        papers, noted = shamir.Papers(), {"passphrase": "TREZOR", "expect": "df41d8fe"}
+        for paper in [FORGED[0], ONE, FIVE[1], FIVE[3]]:
+            papers.add(paper)
+        self.assertEqual((papers.remove(ID, "0.2"), papers.remove(2, "0.0"), papers.remove(ID, "0.00"), papers.enough), (False, False, False, True))
+        self.assertEqual(papers.add_and_tell(FIVE[0]), "28 conflicting share 0.0")
+        [forged, *_] = papers.lines(ID)
+        self.assertEqual((papers.remove(ID, "0.0"), papers.enough, forged), (True, False, bytes(len(forged))))
+        self.assertEqual(refusal_of(papers.recover).code, 30)
+        self.assertFalse(papers.add(FIVE[0]).again)
+        self.assertEqual((papers.enough, papers.recover(**noted)), (True, shamir.Recovered(SECRET)))
+        self.assertEqual([line.decode() for line in papers.lines(ID)], [FIVE[1], FIVE[3], FIVE[0]])
+        # A paper of another backup changes nothing for this one.
+        self.assertEqual((papers.remove(7945, "0.0"), papers.ids, papers.enough), (True, [ID], True))
+        for name in ["0.0", "0.1", "1.0"]:
+            self.assertTrue(papers.remove(ID, name))
+        self.assertEqual((papers.ids, papers.enough, refusal_of(papers.recover).code), ([], False, 29))
+        self.assertFalse(papers.add(FIVE[0]).again)
+
+    def test_nothing_is_taken_out_without_memory(self):
+        papers = shamir.Papers()
+        for paper in FIVE[3:]:
+            papers.add(paper)
+        with mock.patch.object(shamir._library, "shamir_quorums", return_value=shamir._Answer(code=4)):
+            self.assertEqual(refusal_of(papers.remove, ID, "1.0").code, 4)
+        self.assertEqual(([line.decode() for line in papers.lines(ID)], papers.enough), (FIVE[3:], True))
 
     def test_a_refused_paper_is_not_kept(self):
         papers = shamir.Papers()

@@ -1,5 +1,6 @@
 """Tests the binding with worked examples. Run these tests with `python3 -m unittest discover -s bindings/python/tests`."""
 import array
+import ast
 import ctypes
 import dataclasses
 import hashlib
@@ -9,6 +10,7 @@ import itertools
 import mmap
 import os
 import pathlib
+import pydoc
 import re
 import signal
 import subprocess
@@ -105,6 +107,8 @@ with memoryview(lines) as view, shamir.Papers() as papers:
     for line in (view[:138], view[139:]):
         papers.add(line)
     shamir.recover_into(room, papers.lines(9066), passphrase=passphrase)
+    for name in ("0.0", "0.2"):
+        assert papers.remove(9066, name)
 """
 LEFT_SECRET = shamir.recover(EXTENDABLE, passphrase="TREZORTREZOR")
 
@@ -396,7 +400,7 @@ class WorkedExamples(unittest.TestCase):
         self.assertEqual(list(shamir.drill(FIVE[::-1], passphrase="TREZOR", after=names[4])), listed[5:])
         self.assertEqual(list(shamir.drill(FIVE, passphrase="TREZOR", after=names[6])), [])
         for room in [68, 113, 200]:
-            with mock.patch.object(shamir, "DRILL_ROOM", room):
+            with mock.patch.object(shamir, "_DRILL_ROOM", room):
                 self.assertEqual(list(shamir.drill(FIVE, passphrase="TREZOR")), listed)
         self.refused(62, None, (0, 0), list, shamir.drill(FIVE, after="0.1"))
         self.refused(61, None, (0, 0), list, shamir.drill(FIVE, after="0.1+"))
@@ -406,7 +410,7 @@ class WorkedExamples(unittest.TestCase):
         names = ["0.0+0.1+1.0", "0.0+0.1+2.0", "0.0+0.2+1.0", "0.0+0.2+2.0", "0.1+0.2+1.0", "0.1+0.2+2.0", "1.0+2.0"]
         listed = [shamir.Outcome(it, None, None, "df41d8fe") for it in names]
         for room in [44, 65, 100, 1 << 16]:
-            with mock.patch.object(shamir, "DRILL_ROOM", room):
+            with mock.patch.object(shamir, "_DRILL_ROOM", room):
                 self.assertEqual(list(shamir.drill(FIVE, passphrase="TREZOR", fingerprints=True)), listed)
         self.assertEqual(list(shamir.drill(FIVE, passphrase="TREZOR", after=names[4], fingerprints=True)), listed[5:])
         self.assertEqual(list(shamir.drill(MISMATCHED, fingerprints=True)), list(shamir.drill(MISMATCHED)))
@@ -425,7 +429,7 @@ class WorkedExamples(unittest.TestCase):
         names = [outcome.names for outcome in shamir.drill(FIVE)]
         listed = [shamir.Outcome(it, None, expected=True) for it in names]
         for room in [47, 70, 120, 1 << 16]:
-            with mock.patch.object(shamir, "DRILL_ROOM", room):
+            with mock.patch.object(shamir, "_DRILL_ROOM", room):
                 self.assertEqual(list(shamir.drill(FIVE, passphrase="TREZOR", expect="DF41D8FE")), listed)
         self.assertEqual(list(shamir.drill(FIVE, passphrase="TREZOR", after=names[4], expect="df41d8fe")), listed[5:])
         self.assertEqual(list(shamir.drill(MISMATCHED, expect="df41d8fe")), list(shamir.drill(MISMATCHED)))
@@ -471,7 +475,7 @@ class WorkedExamples(unittest.TestCase):
 
     def test_count_of_a_backup(self):
         """The answer of a creation is the number of mnemonics."""
-        room = ctypes.create_string_buffer(shamir.MNEMONICS_BYTES_MAX)
+        room = ctypes.create_string_buffer(shamir._MNEMONICS_BYTES_MAX)
         for plan, count in [(b"1of1", 1), (PLAN.encode(), 5), (b"16/" + b",".join([b"16of16"] * 16), 256)]:
             random = bytes(shamir.random_needed(plan, 16))
             answer = shamir._library.shamir_create(plan, len(plan), SECRET, 16, b"", 0, 0, 0, random, len(random), room, len(room))
@@ -672,7 +676,7 @@ class WorkedExamples(unittest.TestCase):
     def test_parts(self):
         """A drill in two parts lists what the whole drill does. The first part has room for four and a half quorums."""
         whole = list(shamir.drill(FIVE, passphrase="TREZOR"))
-        with mock.patch.object(shamir, "DRILL_ROOM", 4 * 45 + 30):
+        with mock.patch.object(shamir, "_DRILL_ROOM", 4 * 45 + 30):
             parts = shamir.drill(FIVE, passphrase="TREZOR")
             first = [next(parts) for _ in range(4)]
         self.assertEqual(first + list(shamir.drill(FIVE, passphrase="TREZOR", after=first[-1].names)), whole)
@@ -697,7 +701,7 @@ class WorkedExamples(unittest.TestCase):
             (68, lambda *room: library.shamir_drill(text, len(text), *key, 0, None, 0, 1, 0, None, 0, *room)),
             (44, lambda *room: library.shamir_drill(text, len(text), *key, 0, None, 0, 1, 1, None, 0, *room)),
             (47, lambda *room: library.shamir_drill(text, len(text), *key, 0, None, 0, 1, 2, b"df41d8fe", 8, *room)),
-            (shamir.WORDS_BYTES_MAX, lambda *room: library.shamir_words(None, 0, *room)),
+            (shamir._WORDS_BYTES_MAX, lambda *room: library.shamir_words(None, 0, *room)),
             (9, lambda *room: library.shamir_words(b"aca", 3, *room)),
             (5, library.shamir_version),
             (14, lambda *room: library.shamir_text(shamir._Answer(code=11, first=2), *room)),
@@ -756,14 +760,68 @@ class WorkedExamples(unittest.TestCase):
     def test_long_numbers(self):
         """A number that is too long to be printed raises an OverflowError too, and the message doesn't have the number."""
         for number in (10**5000, -(10**5000), 2**64 + 987654321):
-            for call in [
-                lambda: shamir.create("1of1", SECRET, exponent=number),
-                lambda: shamir.random_needed("1of1", number),
-                lambda: shamir.recover(ONE, max_exponent=number),
-                lambda: next(shamir.drill(ONE, max_exponent=number)),
+            for name, bits, call in [
+                ("exponent", 32, lambda: shamir.create("1of1", SECRET, exponent=number)),
+                ("secret_bytes", 64, lambda: shamir.random_needed("1of1", number)),
+                ("max_exponent", 32, lambda: shamir.recover(ONE, max_exponent=number)),
+                ("max_exponent", 32, lambda: next(shamir.drill(ONE, max_exponent=number))),
             ]:
-                with self.assertRaisesRegex(OverflowError, r"^a number isn't from 0 to 2\*\*(32|64) - 1$"):
+                with self.assertRaisesRegex(OverflowError, rf"^{name} isn't from 0 to 2\*\*{bits} - 1$"):
                     call()
+
+    def test_names_of_arguments(self):
+        """An error of an argument names it, and says of which type it is, and not what it holds."""
+        kept, gone = ENCRYPTED[0][1], memoryview(SECRET)
+        gone.release()
+        other, text, data = "but of type int", "isn't a text", "isn't an object with the buffer protocol"
+        for told, kind, call in [
+            (f"mnemonic {text}, {other}", TypeError, lambda: shamir.parse(7)),
+            (f"mnemonic {data}, {other}", TypeError, lambda: shamir.judge([], 7)),
+            (f"line {text}, {other}", TypeError, lambda: shamir.repair(7)),
+            (f"letters {text}, {other}", TypeError, lambda: shamir.words(7)),
+            (f"plan {text}, {other}", TypeError, lambda: shamir.random_needed(7, 16)),
+            (f"secret {data}, but of type str", TypeError, lambda: shamir.create("1of1", SECRET.hex())),
+            (f"passphrase {text}, {other}", TypeError, lambda: shamir.create("1of1", SECRET, passphrase=7)),
+            (f"random {data}, {other}", TypeError, lambda: shamir.create("1of1", SECRET, random=7)),
+            ("exponent isn't a whole number, but of type str", TypeError, lambda: shamir.create("1of1", SECRET, exponent="7")),
+            (f"extendable isn't True or False, {other}", TypeError, lambda: shamir.create("1of1", SECRET, extendable=1)),
+            (f"lines isn't a text or an iterable of lines, {other}", TypeError, lambda: shamir.recover(7)),
+            (f"lines isn't a text or an iterable of lines, {other}", TypeError, lambda: shamir.judge(7, ONE)),
+            (f"lines isn't a text or an iterable of lines, {other}", TypeError, lambda: shamir.recover_into(bytearray(16), 7)),
+            (f"line 2 of the list {text}, {other}", TypeError, lambda: shamir.recover([ONE, 7])),
+            (f"line 2 of the list {data}, but of type str", TypeError, lambda: shamir.recover_into(bytearray(16), [ONE.encode(), ONE])),
+            (f"passphrase {text}, but of type NoneType", TypeError, lambda: shamir.recover(ONE, passphrase=None)),
+            (f"passphrase {data}, but of type str", TypeError, lambda: shamir.recover_into(bytearray(16), ONE.encode(), passphrase="a")),
+            (f"room {data}, {other}", TypeError, lambda: shamir.recover_into(7, ONE.encode())),
+            (f"expect {text}, {other}", TypeError, lambda: shamir.recover(ONE, expect=7)),
+            (f"after {text}, {other}", TypeError, lambda: next(shamir.drill(ONE, after=7))),
+            (f"fingerprints isn't True or False, {other}", TypeError, lambda: next(shamir.drill(ONE, fingerprints=1))),
+            (f"names {text}, {other}", TypeError, lambda: shamir.reissue(PLAN, 7, FIVE)),
+            ("secret isn't an EncryptedSecret, but of type bytes", TypeError, lambda: shamir.decrypt(SECRET)),
+            (f"secret.value {data}, {other}", TypeError, lambda: shamir.decrypt(dataclasses.replace(kept, value=7))),
+            ("secret.id isn't a whole number, but of type str", TypeError, lambda: shamir.decrypt(dataclasses.replace(kept, id="7"))),
+            (f"secret.extendable isn't True or False, {other}", TypeError, lambda: shamir.decrypt(dataclasses.replace(kept, extendable=1))),
+            ("round isn't from 0 to 2**8 - 1", OverflowError, lambda: shamir.decrypt_round(kept, 256)),
+            ("the memory of secret is no longer there", ValueError, lambda: shamir.fingerprint(gone)),
+            ("the memory of lines is no longer there", ValueError, lambda: shamir.recover(gone)),
+            ("line 1 of the list holds a line feed, so it is several lines", ValueError, lambda: shamir.recover([f"{ONE}\n{ONE}"])),
+            ("line 1 of the list holds a line feed, so it is several lines", ValueError, lambda: shamir.judge([f"{ONE}\n{ONE}"], ONE)),
+            ("plan has a lone surrogate, which UTF-8 can't encode", ValueError, lambda: shamir.random_needed("\ud800", 16)),
+        ]:
+            with self.assertRaises(kind) as raised:
+                call()
+            self.assertEqual(str(raised.exception), told)
+
+    def test_public_names(self):
+        """`__all__` has each public name of the module, and help shows no other."""
+        source = ast.parse(pathlib.Path(shamir.__file__).read_text(encoding="utf-8"))
+        defined = {it.name for it in source.body if isinstance(it, (ast.ClassDef, ast.FunctionDef))}
+        targets = [it.targets[0] if isinstance(it, ast.Assign) else it.target for it in source.body if isinstance(it, (ast.Assign, ast.AnnAssign))]
+        defined |= {it.id for it in targets if isinstance(it, ast.Name)}
+        self.assertEqual(sorted(shamir.__all__), sorted(name for name in defined if not name.startswith("_")))
+        shown = pydoc.render_doc(shamir, renderer=pydoc.plaintext)
+        self.assertEqual(re.findall(r"^ +(?:class )?(_[a-zA-Z]\w*)\b", shown, re.MULTILINE), [])
+        self.assertIn("class Recovered", shown)
 
     def test_released(self):
         """A buffer whose memory is no longer there raises a ValueError."""
@@ -974,16 +1032,28 @@ class WorkedExamples(unittest.TestCase):
         self.refused(30, None, (0, 1), next, drill)
 
     def test_line_feed(self):
-        self.refused(11, None, (20, 0), shamir.parse, ONE + "\n")
+        """A line feed may end one mnemonic, and no other place has one. A carriage return before it is a space."""
+        spelled = ONE.replace(" keyboard", " ?")
+        for given in [ONE + "\n", ONE + "\r\n", ONE.encode() + b"\n", bytearray(ONE.encode() + b"\n")]:
+            self.assertEqual(shamir.parse(given), shamir.parse(ONE))
+            self.assertEqual(shamir.judge([], given), shamir.judge([], ONE))
+            self.assertEqual(shamir.repair(given), [ONE])
+        self.assertEqual(shamir.repair(spelled + "\n"), [ONE])
+        for call in [shamir.parse, shamir.repair, lambda line: shamir.judge([], line)]:
+            self.refused(11, None, (20, 0), call, ONE + "\n\n")
+            self.refused(11, None, (1, 0), call, "\n" + ONE)
+            self.refused(12, None, (0, 0), call, "\n")
+            self.refused(12, None, (0, 0), call, b"")
         self.refused(11, None, (20, 0), shamir.parse, ONE + "\0")
         self.assertEqual(shamir.parse("\t" + ONE.upper().replace(" ", " \t ") + "\r"), shamir.parse(ONE))
 
     @unittest.skipUnless(HEADER.exists(), "the header isn't here")
     def test_sizes(self):
         sizes = dict(re.findall(r"^#define SHAMIR_(\w+) (\d+)$", HEADER.read_text(), re.MULTILINE))
-        names = ["SECRET_BYTES_MAX", "MNEMONICS_BYTES_MAX", "STATUS_BYTES_MAX", "FINGERPRINT_BYTES_MAX", "WORDS_BYTES_MAX", "TEXT_BYTES_MAX"]
-        for name in [*names, "EXPONENT_MAX", "FORM_DIGITS", "FORM_FINGERPRINTS", "FORM_EXPECTED"]:
-            self.assertEqual(getattr(shamir, name), int(sizes[name]))
+        names = ["MNEMONICS_BYTES_MAX", "STATUS_BYTES_MAX", "FINGERPRINT_BYTES_MAX", "WORDS_BYTES_MAX", "TEXT_BYTES_MAX"]
+        for name in [*names, "REPAIRED_BYTES_MAX", "FORM_DIGITS", "FORM_FINGERPRINTS", "FORM_EXPECTED"]:
+            self.assertEqual(getattr(shamir, f"_{name}"), int(sizes[name]))
+        self.assertEqual((shamir.EXPONENT_MAX, shamir.SECRET_BYTES_MAX), (int(sizes["EXPONENT_MAX"]), int(sizes["SECRET_BYTES_MAX"])))
         self.assertEqual(ctypes.sizeof(shamir._Answer), 40)
 
     def test_null(self):
@@ -997,7 +1067,7 @@ class WorkedExamples(unittest.TestCase):
         self.assertEqual(library.shamir_parse(None, 0, shamir._Share(), None, 0).code, 12)
         self.assertEqual(library.shamir_drill(None, 0, None, 0, 0, None, 0, 1, 0, None, 0, None, 0).code, 29)
         self.assertEqual(library.shamir_drill(None, 0, None, 0, 0, None, 0, 1, 2, None, 0, None, 0).code, 44)
-        self.assertEqual(library.shamir_words(None, 0, None, 0).first, shamir.WORDS_BYTES_MAX)
+        self.assertEqual(library.shamir_words(None, 0, None, 0).first, shamir._WORDS_BYTES_MAX)
         self.assertEqual(library.shamir_words(b"x", 1, None, 0).code, 0)
         self.assertEqual(library.shamir_status(None, 0, None, 0).code, 29)
         self.assertEqual(library.shamir_judge(None, 0, None, 0, shamir._Judgement(), None, 0).code, 12)

@@ -1,7 +1,7 @@
 //! Four clients of the crate. The first line of standard input is the passphrase, except for `repair`. Papers are the lines after it, or
 //! those of a file. FINGERPRINT is what `make` told. Enter stops a drill. `cargo run --example wallet make 2of3` runs the first. To stay
 //! short, it shows what is typed, and keeps it and new papers in a `String`, which isn't cleared. A wallet hides and clears them.
-use shamir::{CreateOptions, Drill, Found, Outcome, Papers, RecoverOptions, Secret};
+use shamir::{CreateOptions, Drill, Found, Outcome, Papers, RecoverOptions, Recovered, Secret};
 use std::{env, error::Error, fs, io, io::Read, sync::mpsc, thread};
 
 fn make(passphrase: &str, plan: &str) -> Result<String, Box<dyn Error>> {
@@ -13,11 +13,20 @@ fn make(passphrase: &str, plan: &str) -> Result<String, Box<dyn Error>> {
 }
 
 fn recover(options: &RecoverOptions<'_>) -> Result<String, Box<dyn Error>> {
-    let (mut papers, mut lines) = (Papers::new(), io::stdin().lines());
-    while !papers.is_enough() {
-        println!("{}", papers.add_and_tell(lines.next().ok_or("more papers are needed")??));
+    let mut papers = Papers::new();
+    for line in io::stdin().lines() {
+        println!("{}", papers.add_and_tell(line?));
+        match papers.recover(options) {
+            _ if !papers.is_enough() => {}
+            Err(mismatch @ shamir::Error::DigestMismatch { .. }) => println!("{mismatch}"),
+            found => {
+                let Recovered { secret, doubtful, .. } = found?;
+                let doubtful: String = doubtful.iter().map(|name| format!("doubtful {name}\n")).collect();
+                return Ok(format!("{doubtful}fingerprint {}\n", shamir::fingerprint(&secret)));
+            }
+        }
     }
-    Ok(format!("fingerprint {}\n", shamir::fingerprint(&papers.recover(options)?)))
+    Err("more papers are needed".into())
 }
 
 fn drill(options: &RecoverOptions<'_>, file: &str) -> Result<String, Box<dyn Error>> {

@@ -5,7 +5,7 @@ use crate::error::Error;
 use crate::ffi::{self, Judged};
 use crate::share::ShareFields;
 use crate::status::Status;
-use crate::text::Text;
+use crate::text::{Text, one_line};
 
 /// What a mnemonic is beside others.
 ///
@@ -65,6 +65,6 @@ impl fmt::Display for Judgement {
 /// ```
 pub fn judge(lines: impl AsRef<[u8]>, mnemonic: impl AsRef<[u8]>) -> Result<Judgement, Error> {
     let mut judged = Judged::default();
-    let text = Text::written_by(|room| ffi::judge(lines.as_ref(), mnemonic.as_ref(), &mut judged, room))?;
+    let text = Text::written_by(|room| ffi::judge(lines.as_ref(), one_line(mnemonic.as_ref()), &mut judged, room))?;
     Ok(Judgement { share: ShareFields::of(&judged.share), again: judged.again != 0, status: Status::read(&text) })
 }

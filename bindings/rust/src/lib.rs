@@ -114,7 +114,7 @@ pub use judge::{Judgement, judge};
 pub use mnemonics::Mnemonics;
 pub use name::Name;
 #[cfg(feature = "alloc")]
-pub use papers::Papers;
+pub use papers::{Papers, Recovered};
 pub use plan::Plan;
 #[cfg(feature = "alloc")]
 pub use plan::PlanBuilder;

@@ -5,7 +5,7 @@ use core::str::Lines;
 use crate::error::Error;
 use crate::ffi::Answer;
 use crate::room::Room;
-use crate::text::text_of;
+use crate::text::{one_line, text_of};
 
 /// It takes the place of an item that isn't one line. If the item began with `#`, the library would take the first line of it for a
 /// comment.
@@ -33,7 +33,7 @@ const NO_LINE: &str = "\u{240a}";
 /// # Ok(())
 /// # }
 /// ```
-#[derive(Default)]
+#[derive(Clone, Default)]
 pub struct Mnemonics {
     /// Texts, with a line feed after each.
     text: Room,
@@ -95,8 +95,7 @@ impl<Line: AsRef<str>> FromIterator<Line> for Mnemonics {
     fn from_iter<Given: IntoIterator<Item = Line>>(lines: Given) -> Mnemonics {
         let mut text = Room::default();
         for line in lines {
-            let line = line.as_ref();
-            let line = line.strip_suffix('\n').unwrap_or(line);
+            let line = text_of(one_line(line.as_ref().as_bytes()));
             text.push(if line.contains('\n') { NO_LINE } else { line }.as_bytes());
             text.push(b"\n");
         }

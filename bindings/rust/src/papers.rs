@@ -1,14 +1,46 @@
 //! Mnemonics of several backups, kept apart.
+use alloc::collections::BTreeSet;
 use alloc::string::{String, ToString};
 use alloc::vec::Vec;
 use core::fmt;
 
+use crate::drill::{Drill, Found, Names, Outcome};
 use crate::error::Error;
 use crate::judge::{Judgement, judge};
 use crate::mnemonics::Mnemonics;
+use crate::name::Name;
+use crate::quorums::quorums;
 use crate::recover::{RecoverOptions, recover};
 use crate::repair::repair;
 use crate::secret::Secret;
+
+/// A recovery from papers tries so many quorums at most.
+const QUORUMS_TRIED: usize = 1 << 16;
+
+/// What papers recover.
+///
+/// ```
+/// use shamir::{Error, Papers, RecoverOptions, Recovered};
+///
+/// # fn main() -> Result<(), Error> {
+/// # let line = "duckling enlarge academic academic agency result length solution fridge kidney coal piece deal husband erode duke ajar critical decision keyboard";
+/// let mut papers = Papers::new();
+/// papers.add(line)?;
+/// let Recovered { secret, doubtful, .. } = papers.recover(&RecoverOptions::new().passphrase("TREZOR"))?;
+/// assert_eq!((secret.as_bytes().len(), doubtful.len()), (16, 0));
+/// # Ok(())
+/// # }
+/// ```
+#[derive(Clone, Debug, PartialEq, Eq)]
+#[non_exhaustive]
+pub struct Recovered {
+    /// The secret.
+    pub secret: Secret,
+    /// The quorums of which a digest doesn't match. If the first quorum is right, no other one is tried, and there are none.
+    pub failed: Vec<Names>,
+    /// The papers that are in a quorum that failed, and in none that is right: the wrong ones are among them.
+    pub doubtful: Vec<Name>,
+}
 
 /// Mnemonics as they come, one after the other, of one backup or of several. The library decides about each.
 ///
@@ -27,7 +59,7 @@ use crate::secret::Secret;
 ///     println!("{}", papers.add_and_tell(paper));
 /// }
 /// assert!(papers.is_enough());
-/// let secret = papers.recover(&RecoverOptions::new().passphrase("TREZOR"))?;
+/// let secret = papers.recover(&RecoverOptions::new().passphrase("TREZOR"))?.secret;
 /// assert_eq!((secret.as_bytes().len(), papers.ids().count()), (16, 2));
 /// # Ok(())
 /// # }
@@ -35,11 +67,14 @@ use crate::secret::Secret;
 #[derive(Default)]
 pub struct Papers {
     all: Mnemonics,
+    /// Which paper each of these is: the identifier of its backup, and its name.
+    names: Vec<(u16, Name)>,
     /// The identifier of each backup, and its mnemonics, in the order in which the first of each came.
     backups: Vec<(u16, Mnemonics)>,
     none: Mnemonics,
-    /// What the mnemonic that came last is.
-    last: Option<Judgement>,
+    /// The identifier of the mnemonic that came last, and whether its backup has enough.
+    last: Option<u16>,
+    enough: bool,
 }
 
 impl Papers {
@@ -74,9 +109,10 @@ impl Papers {
         if !judgement.again {
             let respelled = repair(&mnemonic)?;
             self.all.push(&respelled);
+            self.names.push((judgement.share.id, judgement.share.name()));
             self.backup(judgement.share.id).push(&respelled);
         }
-        self.last = Some(judgement);
+        (self.last, self.enough) = (Some(judgement.share.id), judgement.status.is_enough());
         Ok(judgement)
     }
 
@@ -106,10 +142,49 @@ impl Papers {
     /// ```
     #[must_use]
     pub fn is_enough(&self) -> bool {
-        self.last.is_some_and(|judgement| judgement.status.is_enough())
+        self.enough
     }
 
-    /// Recovers the secret of the backup of the mnemonic that came last, as [`recover`](crate::recover()) does.
+    /// Takes out the mnemonic with this name in the backup with an identifier, and gives whether it was here.
+    ///
+    /// So a forged one can make room for the right one, which is refused with [`Error::ConflictingShare`] beside it. The only error is
+    /// [`Error::NoMemory`]. Then nothing is taken out.
+    ///
+    /// ```
+    /// use shamir::{Name, Papers};
+    ///
+    /// # fn main() -> Result<(), shamir::Error> {
+    /// # let line = "duckling enlarge academic academic agency result length solution fridge kidney coal piece deal husband erode duke ajar critical decision keyboard";
+    /// let mut papers = Papers::new();
+    /// papers.add(line)?;
+    /// assert!(papers.remove(7945, Name { group: 0, member: 0 })? && !papers.is_enough());
+    /// # Ok(())
+    /// # }
+    /// ```
+    pub fn remove(&mut self, id: u16, name: Name) -> Result<bool, Error> {
+        let is_other = |paper: &(u16, Name)| *paper != (id, name);
+        if self.names.iter().all(is_other) {
+            return Ok(false);
+        }
+        let (all, of_backup) = (self.kept(is_other), self.kept(|paper| paper.0 == id && is_other(paper)));
+        if self.last == Some(id) {
+            self.enough = !of_backup.is_empty() && quorums(&of_backup)? > 0;
+        }
+        self.all = all;
+        self.names.retain(is_other);
+        if of_backup.is_empty() {
+            self.backups.retain(|(other, _)| *other != id);
+        } else {
+            *self.backup(id) = of_backup;
+        }
+        Ok(true)
+    }
+
+    /// Recovers the secret of the backup of the mnemonic that came last, and gives what that shows of its papers.
+    ///
+    /// If a digest of the first quorum doesn't match, the other quorums are tried too, but at most 65,536, and the secret is that of
+    /// the first whose digests match. So one wrong paper doesn't hide what the others give. If none matches, the error is that of the
+    /// first quorum. Otherwise it gives the errors of [`recover`](crate::recover()).
     ///
     /// ```
     /// use shamir::{Error, Papers, RecoverOptions};
@@ -119,12 +194,27 @@ impl Papers {
     /// let mut papers = Papers::new();
     /// assert_eq!(papers.recover(&RecoverOptions::new()), Err(Error::NoShares));
     /// papers.add(line)?;
-    /// assert!(papers.recover(&RecoverOptions::new().passphrase("TREZOR").expected("df41d8fe")).is_ok());
+    /// assert!(papers.recover(&RecoverOptions::new().passphrase("TREZOR").expected("df41d8fe"))?.failed.is_empty());
     /// # Ok(())
     /// # }
     /// ```
-    pub fn recover(&self, options: &RecoverOptions<'_>) -> Result<Secret, Error> {
-        recover(self.last.map_or(&self.none, |judgement| self.lines(judgement.share.id)), options)
+    pub fn recover(&self, options: &RecoverOptions<'_>) -> Result<Recovered, Error> {
+        let lines = self.last.map_or(&self.none, |id| self.lines(id));
+        let first = match recover(lines, options) {
+            Ok(secret) => return Ok(Recovered { secret, failed: Vec::new(), doubtful: Vec::new() }),
+            Err(error @ Error::DigestMismatch { .. }) => error,
+            Err(error) => return Err(error),
+        };
+        let (mut failed, mut right) = (Vec::new(), Vec::new());
+        for outcome in Drill::new(lines, &RecoverOptions { expected: b"", ..*options }).fingerprints().take(QUORUMS_TRIED) {
+            let Outcome { names, found } = outcome?;
+            if matches!(found, Found::Mismatch(_)) { failed.push(names) } else { right.push(names) }
+        }
+        let chosen: Vec<Name> = right.first().ok_or(first)?.iter().collect();
+        let secret = recover(self.kept(|(id, name)| Some(*id) == self.last && chosen.contains(name)), options)?;
+        let sound: BTreeSet<Name> = right.iter().flat_map(Names::iter).collect();
+        let doubtful: BTreeSet<Name> = failed.iter().flat_map(Names::iter).filter(|name| !sound.contains(name)).collect();
+        Ok(Recovered { secret, failed, doubtful: doubtful.into_iter().collect() })
     }
 
     /// Gives the identifiers of the backups, in the order in which they came.
@@ -156,6 +246,11 @@ impl Papers {
     #[must_use]
     pub fn lines(&self, id: u16) -> &Mnemonics {
         self.backups.iter().find(|(other, _)| *other == id).map_or(&self.none, |(_, lines)| lines)
+    }
+
+    /// Gives the mnemonics for which a condition holds.
+    fn kept(&self, holds: impl Fn(&(u16, Name)) -> bool) -> Mnemonics {
+        self.all.iter().zip(&self.names).filter(|(_, paper)| holds(paper)).map(|(line, _)| line).collect()
     }
 
     /// Gives the mnemonics of the backup with an identifier, to which more can be added.

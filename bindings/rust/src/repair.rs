@@ -1,7 +1,7 @@
 //! Lines of which some words can't be read.
 use crate::error::Error;
 use crate::ffi;
-use crate::text::text_of;
+use crate::text::{one_line, text_of};
 
 /// The greatest length of what [`repair_into`] writes.
 ///
@@ -28,7 +28,7 @@ pub const REPAIRED_BYTES_MAX: usize = 1980;
 /// # }
 /// ```
 pub fn repair_into(line: impl AsRef<[u8]>, room: &mut [u8]) -> Result<&str, Error> {
-    let written = ffi::repair(line.as_ref(), room).checked()?.written();
+    let written = ffi::repair(one_line(line.as_ref()), room).checked()?.written();
     Ok(text_of(&room[..written]))
 }
 
@@ -59,5 +59,5 @@ pub fn repair_into(line: impl AsRef<[u8]>, room: &mut [u8]) -> Result<&str, Erro
 /// ```
 #[cfg(feature = "alloc")]
 pub fn repair(line: impl AsRef<[u8]>) -> Result<crate::Mnemonics, Error> {
-    crate::Mnemonics::written_by(REPAIRED_BYTES_MAX, |room| ffi::repair(line.as_ref(), room))
+    crate::Mnemonics::written_by(REPAIRED_BYTES_MAX, |room| ffi::repair(one_line(line.as_ref()), room))
 }

@@ -6,7 +6,7 @@ use crate::error::Error;
 use crate::ffi::{self, Answer};
 
 /// Bytes that are cleared when they are dropped.
-#[derive(Default)]
+#[derive(Clone, Default)]
 pub(crate) struct Room(Vec<u8>);
 
 impl Room {

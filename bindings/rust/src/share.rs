@@ -5,6 +5,7 @@ use crate::error::Error;
 use crate::ffi::{self, Fields};
 use crate::name::Name;
 use crate::secret::Secret;
+use crate::text::one_line;
 
 /// The fields and the value of a mnemonic, as SLIP-0039 has them in "Format of the share mnemonic".
 ///
@@ -140,7 +141,7 @@ impl FromStr for Share {
     }
 }
 
-/// Reads one mnemonic: a line without its line feed.
+/// Reads one mnemonic, which is a line. A line feed may end it.
 ///
 /// Any number of spaces, tabs and carriage returns may stand before, between and after the words. Upper-case letters count as
 /// lower-case ones.
@@ -155,7 +156,7 @@ impl FromStr for Share {
 /// ```
 pub fn parse(mnemonic: impl AsRef<[u8]>) -> Result<Share, Error> {
     let mut fields = Fields::default();
-    let value = Secret::written_by(|room| ffi::parse(mnemonic.as_ref(), &mut fields, room))?;
+    let value = Secret::written_by(|room| ffi::parse(one_line(mnemonic.as_ref()), &mut fields, room))?;
     let ShareFields { id, extendable, exponent, group_index, group_threshold, group_count, member_index, member_threshold } =
         ShareFields::of(&fields);
     Ok(Share { id, extendable, exponent, group_index, group_threshold, group_count, member_index, member_threshold, value })

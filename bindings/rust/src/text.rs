@@ -34,6 +34,11 @@ pub(crate) fn text_of(bytes: &[u8]) -> &str {
     core::str::from_utf8(bytes).expect("the library writes ASCII, and a caller's text is UTF-8")
 }
 
+/// Gives a line without the line feed that may end it. The library takes none.
+pub(crate) fn one_line(line: &[u8]) -> &[u8] {
+    line.strip_suffix(b"\n").unwrap_or(line)
+}
+
 /// Gives a number that the library wrote, of at most 255.
 pub(crate) fn small(digits: &str) -> u8 {
     digits.parse().expect("the library writes a number of at most 255")

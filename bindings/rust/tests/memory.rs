@@ -92,7 +92,7 @@ mod in_heap {
     use super::{LOOKED_FOR, RANDOM, given, left_by};
     use given::{FIVE, ONE, TWO_RANDOM, bytes};
     use shamir::{
-        CreateOptions, DecryptOptions, Drill, Error, Mnemonics, Papers, RecoverOptions, Secret, create,
+        CreateOptions, DecryptOptions, Drill, Error, Mnemonics, Name, Papers, RecoverOptions, Secret, create,
         create_from_encrypted_with, create_with, decrypt, decrypt_rounds, encrypted, judge, parse, recover, reissue, repair,
         resplit_with,
     };
@@ -142,6 +142,8 @@ mod in_heap {
         assert_eq!(left_by(kept), 0);
         assert_eq!(left_by(|| kept().add(ONE)), 0);
         assert_eq!(left_by(|| kept().recover(&trezor()).unwrap()), 0);
+        assert_eq!(left_by(|| kept().remove(1, Name { group: 0, member: 0 }).unwrap()), 0);
+        assert_eq!(left_by(|| kept().lines(1).clone()), 0);
     }
 
     #[test]

@@ -3,7 +3,10 @@
 mod given;
 
 use given::{CONFLICTING, FIVE, ONE, ONE_SECRET, TWO, digits};
-use shamir::{Drill, Error, Found, Judgement, Name, Papers, RecoverOptions, ShareFields, judge, parse, recover, status};
+use shamir::{
+    Drill, Error, Found, Judgement, Mismatch, Mnemonics, Name, Papers, RecoverOptions, Recovered, ShareFields, judge, parse,
+    recover, repair, status,
+};
 
 /// The identifiers of `ONE`, of `TWO` and of `FIVE`.
 const IDS: [u16; 3] = [7945, 25653, 1];
@@ -69,11 +72,77 @@ fn papers_are_enough_for_the_backup_of_the_last_one() {
     ] {
         assert_eq!((papers.add_and_tell(paper).as_str(), papers.is_enough()), (told, is_enough));
         match papers.recover(&noted) {
-            Ok(secret) => assert!(is_enough && digits(secret.as_bytes()) == ONE_SECRET),
+            Ok(found) => assert!(is_enough && digits(found.secret.as_bytes()) == ONE_SECRET && found.failed.is_empty()),
             Err(error) => assert!(!is_enough && error.code() == 30),
         }
     }
     assert_eq!(papers.recover(&noted.passphrase("x")), Err(Error::OtherSecret));
+}
+
+#[test]
+fn a_wrong_paper_does_not_hide_what_the_others_give() {
+    let (mut papers, noted) = (Papers::new(), trezor().expected("df41d8fe"));
+    for paper in [ONE, CONFLICTING, FIVE[1], FIVE[3]] {
+        papers.add(paper).unwrap();
+    }
+    assert_eq!(papers.recover(&noted), Err(Error::DigestMismatch { mismatch: Mismatch::InGroup { group: 0 } }));
+    papers.add(format!("{}\n", FIVE[4])).unwrap();
+    let names = |group, members: &[u8]| members.iter().map(|&member| Name { group, member }).collect::<Vec<_>>();
+    let told = |found: &Recovered| found.failed.iter().map(|names| names.to_string()).collect::<Vec<_>>().join(" ");
+    let found = papers.recover(&noted).unwrap();
+    assert_eq!((digits(found.secret.as_bytes()).as_str(), told(&found).as_str()), (ONE_SECRET, "0.0+0.1+1.0 0.0+0.1+2.0"));
+    assert_eq!(found.doubtful, names(0, &[0, 1]));
+    assert_eq!(papers.recover(&trezor().expected("00000000")), Err(Error::OtherSecret));
+
+    papers.add(FIVE[2]).unwrap();
+    let found = papers.recover(&trezor()).unwrap();
+    assert_eq!(told(&found), "0.0+0.1+1.0 0.0+0.1+2.0 0.0+0.2+1.0 0.0+0.2+2.0");
+    assert_eq!(found.doubtful, names(0, &[0]));
+}
+
+#[test]
+fn a_paper_is_taken_out() {
+    let (mut papers, noted) = (Papers::new(), trezor().expected("df41d8fe"));
+    for paper in [CONFLICTING, ONE, FIVE[1], FIVE[3]] {
+        papers.add(paper).unwrap();
+    }
+    let of = |group, member| Name { group, member };
+    assert_eq!((papers.remove(1, of(0, 2)), papers.remove(2, of(0, 0)), papers.is_enough()), (Ok(false), Ok(false), true));
+    assert_eq!(papers.add(FIVE[0]).unwrap_err().code(), 28);
+    assert_eq!((papers.remove(1, of(0, 0)), papers.is_enough()), (Ok(true), false));
+    assert!(papers.lines(1).iter().eq([FIVE[1], FIVE[3]]));
+    assert!(!papers.add(FIVE[0]).unwrap().again && papers.recover(&noted).unwrap().failed.is_empty());
+    assert_eq!((papers.remove(7945, of(0, 0)), papers.is_enough(), papers.ids().collect::<Vec<_>>()), (Ok(true), true, vec![1]));
+    for name in [of(0, 0), of(0, 1), of(1, 0)] {
+        assert_eq!(papers.remove(1, name), Ok(true));
+    }
+    assert_eq!((papers.ids().count(), papers.is_enough(), papers.recover(&noted)), (0, false, Err(Error::NoShares)));
+    assert!(!papers.add(ONE).unwrap().again && papers.is_enough());
+}
+
+#[test]
+fn a_line_feed_may_end_one_mnemonic() {
+    let spelled = FIVE[0].replace("cluster", "?\n");
+    for ended in [format!("{}\n", FIVE[0]), format!("{}\r\n", FIVE[0])] {
+        assert_eq!(parse(&ended), parse(FIVE[0]));
+        assert_eq!(judge("", &ended), judge("", FIVE[0]));
+        assert!(repair(&ended).unwrap().iter().eq([FIVE[0]]));
+    }
+    assert!(repair(&spelled).unwrap().iter().eq([FIVE[0]]));
+    assert_eq!(shamir::repair_into(&spelled, &mut [0; 1980]).unwrap().trim_end(), FIVE[0]);
+    let two = format!("{}\n\n", FIVE[0]);
+    let errors =
+        [parse(&two).unwrap_err(), judge("", &two).unwrap_err(), repair(&two).unwrap_err(), Papers::new().add(&two).unwrap_err()];
+    assert_eq!(errors, [(); 4].map(|()| Error::UnknownWord { line: None, position: 20 }));
+}
+
+#[test]
+fn mnemonics_are_cloned() {
+    let mut papers = Papers::new();
+    papers.add(ONE).unwrap();
+    let kept: Mnemonics = papers.lines(7945).clone();
+    drop(papers);
+    assert!(kept.iter().eq([ONE]));
 }
 
 #[test]
