@@ -94,6 +94,5 @@ def _check(number: int, line: bytes) -> None:
 
 
 def _line(mnemonic: str) -> bytes:
-    """Return a mnemonic without a line feed at its end. The library refuses another line feed in it, and lone surrogates."""
-    line = str.encode(mnemonic, "utf-8", "surrogatepass")
-    return line[:-1] if line.endswith(b"\n") else line
+    """Return a mnemonic in UTF-8. A line feed may end it. The library refuses another line feed in it, and lone surrogates."""
+    return str.encode(mnemonic, "utf-8", "surrogatepass")

@@ -63,7 +63,7 @@ class Trial:
             begun = time.monotonic()
             listing = shamir._listed(data, key, cursor, count, form, expect)
             seconds = time.monotonic() - begun
-            count = min(2 * count, shamir.LIMIT_MAX) if seconds < PART_SECONDS else max(PART_LEAST, count // 2)
+            count = min(2 * count, shamir._LIMIT_MAX) if seconds < PART_SECONDS else max(PART_LEAST, count // 2)
             cursor, is_more = listing.cursor, listing.cursor is not None
             for it in (shamir._outcome(line, form) for line in listing.outcomes.splitlines()):
                 yield Tried(tuple(it.names.split("+")), it.fingerprint, it.mismatch, it.expected)
