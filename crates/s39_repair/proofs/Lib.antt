@@ -10,6 +10,7 @@ pub mod WrongPlaces
 pub mod Wholes
 pub mod ComesBack
 pub mod OneAnswer
+pub mod Places
 pub mod Misread
 pub mod OneWrongWord
 pub mod SomeAnswer

@@ -1,12 +1,11 @@
 -- Mnemonics that fit one line, or that a line was to say.
-use Rattle.std.proofs.Common.{◌≡◌, ◌≢◌, ℕ, zero, suc, ◌+◌, ◌<◌, ◌≤◌, ◌⊎◌, inl, inr, Bool, true, false, cond, List, [], ◌∷◌, length, get_or}
+use Rattle.std.proofs.Common.{◌≡◌, ◌≢◌, ℕ, zero, suc, ◌<◌, ◌≤◌, ◌⊎◌, inl, inr, Bool, true, false, cond, List, [], ◌∷◌, length, get_or}
 use Rattle.std.proofs.Common.{Some, None, Result, Ok, Err}
 use Rattle.std.proofs.Common.{refl, sym, ap, ap₂, subst, ◌∙◌, ⊎_elim, arith}
 use Rattle.std.specs.Prelude.{All, Contains, count_by, not, ◌==◌, ◌||◌}
 use Rattle.std.specs.List.{range_with_len}
 use Rattle.std.proofs.lemmas.Bool.{eqb-true, eq-eqb, false≢true, false_from_ne_true}
 use Rattle.std.proofs.lemmas.List.Elements.{All-head, All-tail}
-use Rattle.std.proofs.lemmas.List.Sums.{sum_by-cons}
 use Rattle.s39_lists.proofs.Ranges.{Contains-range}
 use Rattle.s39_lists.proofs.Sublists.{of_filter, Contains-filter}
 use Rattle.s39_words.specs.Layout.{IsIndex, word_list_length}
@@ -32,6 +31,7 @@ use Rattle.s39_repair.specs.Misread.{count_of_places, is_doubtful, is_misread, I
 use Rattle.s39_repair.proofs.Candidates.{spelled_indices, spelled_parts}
 use Rattle.s39_repair.proofs.ComesBack.{chosen_below, chosen_length, only_one}
 use Rattle.s39_repair.proofs.MarksRead.{AreChosen}
+use Rattle.s39_repair.proofs.Places.{all_mapped, all_zip, by_places, count_differences, count_map, count_zip, fewer, first, second, third}
 
 -- ---- counts
 
@@ -39,42 +39,22 @@ pub by_test : (P : Type 0) (b : Bool) → (b ≡ true → P) → (b ≡ false �
 by_test P true f g = f refl
 by_test P false f g = g refl
 
-pub differ_same : (v w : ℕ) (vs ws : List ℕ) → v ≡ w → count_of_differences (v ∷ vs) (w ∷ ws) ≡ count_of_differences vs ws
-differ_same v w vs ws e = rw (eq-eqb v w e) refl
+differs : (v w : ℕ) → not (v == w) ≡ true → v ≢ w
+differs v w other same = false≢true (sym (ap not (eq-eqb v w same)) ∙ other)
 
-pub differ_not : (v w : ℕ) (vs ws : List ℕ) → v ≢ w → count_of_differences (v ∷ vs) (w ∷ ws) ≡ suc (count_of_differences vs ws)
-differ_not v w vs ws off = rw (false_from_ne_true (v == w) (λ e. off (eqb-true v w e))) refl
+pub differs_if : (v w : ℕ) → v ≢ w → not (v == w) ≡ true
+differs_if v w off = ap not (false_from_ne_true (v == w) (λ e. off (eqb-true v w e)))
 
-differ_most : (v w : ℕ) (vs ws : List ℕ) → count_of_differences (v ∷ vs) (w ∷ ws) ≤ suc (count_of_differences vs ws)
-differ_most v w vs ws = by_test _ (v == w)
-    (λ e. let n = differ_same v w vs ws (eqb-true v w e) in omega (arith, n))
-    (λ e. let n = differ_not v w vs ws (λ same. false≢true (sym e ∙ eq-eqb v w same)) in omega (arith, n))
-
-pub differ_least : (v w : ℕ) (vs ws : List ℕ) → count_of_differences vs ws ≤ count_of_differences (v ∷ vs) (w ∷ ws)
-differ_least v w vs ws = by_test _ (v == w)
-    (λ e. let n = differ_same v w vs ws (eqb-true v w e) in omega (arith, n))
-    (λ e. let n = differ_not v w vs ws (λ same. false≢true (sym e ∙ eq-eqb v w same)) in omega (arith, n))
-
-pub no_difference : (vs ws : List ℕ) → length vs ≡ length ws → count_of_differences vs ws ≡ 0 → vs ≡ ws
+no_difference : (vs ws : List ℕ) → length vs ≡ length ws → count_of_differences vs ws ≡ 0 → vs ≡ ws
 no_difference [] [] n none = refl
 no_difference [] (w ∷ ws) n none = absurd (omega (arith, n))
 no_difference (v ∷ vs) [] n none = absurd (omega (arith, n))
-no_difference (v ∷ vs) (w ∷ ws) n none = by_test _ (v == w)
-    (λ e.
-    let same = eqb-true v w e in
-    let rest = differ_same v w vs ws same in
-    ap₂ (λ x xs. x ∷ xs) same (no_difference vs ws (omega (arith, n)) (sym rest ∙ none)))
-    (λ e.
-    let more = differ_not v w vs ws (λ same. false≢true (sym e ∙ eq-eqb v w same)) in
-    absurd (omega (arith, more, none)))
-
-pub place_counted : (test : List ℕ → ℕ → Bool) (m : List ℕ) (w : ℕ) (ms : List (List ℕ)) (ws : List ℕ) → test m w ≡ true
-    → count_of_places test (m ∷ ms) (w ∷ ws) ≡ suc (count_of_places test ms ws)
-place_counted test m w ms ws e = rw e refl
-
-pub place_passed : (test : List ℕ → ℕ → Bool) (m : List ℕ) (w : ℕ) (ms : List (List ℕ)) (ws : List ℕ) → test m w ≡ false
-    → count_of_places test (m ∷ ms) (w ∷ ws) ≡ count_of_places test ms ws
-place_passed test m w ms ws e = rw e refl
+no_difference (v ∷ vs) (w ∷ ws) n none = go (v == w) refl (no_difference vs ws (omega (arith, n))) none
+  where
+    go : (b : Bool) → (v == w) ≡ b → (count_of_differences vs ws ≡ 0 → vs ≡ ws)
+        → cond b (count_of_differences vs ws) (suc (count_of_differences vs ws)) ≡ 0 → v ∷ vs ≡ w ∷ ws
+    go true e rest none = ap₂ (λ x xs. x ∷ xs) (eqb-true v w e) (rest none)
+    go false e rest none = absurd (omega (arith, none))
 
 -- ---- what a mark stands for
 
@@ -102,71 +82,48 @@ one_choice mark v w has below sure =
     let parts = or_parts (is_open mark) (is_misread mark w) sure in
     only_one (choices mark) v w parts.0 has (chosen_from mark w below parts.1)
 
+abbrev IsAmong : List ℕ → ℕ → Type 0
+IsAmong mark word = Contains (choices mark) word
+
 -- words for which the marks stand differ in doubtful places alone
-differences_few : (marks : List (List ℕ)) (vs ws : List ℕ) → AreChosen marks vs → All IsIndex ws
+differences_few : (marks : List (List ℕ)) (vs ws : List ℕ) → length marks ≡ length vs → length vs ≡ length ws → AreChosen marks vs → All IsIndex ws
     → count_of_differences vs ws ≤ count_of_places is_doubtful marks ws
-differences_few [] [] ws p all = omega arith
-differences_few [] (v ∷ vs) ws p all = absurd p
-differences_few (m ∷ ms) [] ws p all = absurd p
-differences_few (m ∷ ms) (v ∷ vs) [] p all = omega arith
-differences_few (m ∷ ms) (v ∷ vs) (w ∷ ws) p all =
-    let rest = differences_few ms vs ws p.1 (All-tail IsIndex w ws all) in
-    by_test _ (is_doubtful m w)
-    (λ doubt. let n = place_counted is_doubtful m w ms ws doubt in let most = differ_most v w vs ws in omega (arith, n, most, rest))
-    (λ sure.
-    let n = place_passed is_doubtful m w ms ws sure in
-    let same = differ_same v w vs ws (one_choice m v w p.0 (All-head IsIndex w ws all) sure) in
-    omega (arith, n, same, rest))
+differences_few = by_places _ (λ xs chosen all.
+    let few = fewer (λ x. not (x.1.0 == x.1.1)) (λ x. is_doubtful x.0 x.1.1) xs (λ k d lt. doubted _ _ _
+    (all_zip first second IsAmong xs chosen k d lt) (all_mapped IsIndex third xs all k d lt)) in
+    omega (arith, few, count_differences second third xs, count_zip first third is_doubtful xs))
+  where
+    doubted : (m : List ℕ) (v w : ℕ) → Contains (choices m) v → IsIndex w → not (v == w) ≡ true → is_doubtful m w ≡ true
+    doubted m v w has below other = by_test _ (is_doubtful m w) (λ yes. yes) (λ sure. absurd (differs v w other (one_choice m v w has below sure)))
 
 -- and in each misread place
-differences_some : (marks : List (List ℕ)) (vs ws : List ℕ) → AreChosen marks vs → 1 ≤ count_of_places is_misread marks ws
-    → 1 ≤ count_of_differences vs ws
-differences_some [] vs ws p some = absurd (omega arith)
-differences_some (m ∷ ms) [] ws p some = absurd p
-differences_some (m ∷ ms) (v ∷ vs) [] p some = absurd (omega arith)
-differences_some (m ∷ ms) (v ∷ vs) (w ∷ ws) p some = by_test _ (is_misread m w)
-    (λ misread.
-    let n = differ_not v w vs ws (λ same. false≢true (sym (chosen_is_read m v p.0) ∙ ap (is_misread m) same ∙ misread)) in
-    omega (arith, n))
-    (λ read.
-    let n = place_passed is_misread m w ms ws read in
-    let rest = differences_some ms vs ws p.1 (omega (arith, n, some)) in
-    let least = differ_least v w vs ws in
-    omega (arith, least, rest))
+differences_some : (marks : List (List ℕ)) (vs ws : List ℕ) → length marks ≡ length vs → length vs ≡ length ws → AreChosen marks vs
+    → count_of_places is_misread marks ws ≤ count_of_differences vs ws
+differences_some = by_places _ (λ xs chosen.
+    let few = fewer (λ x. is_misread x.0 x.1.1) (λ x. not (x.1.0 == x.1.1)) xs (λ k d lt. other _ _ _
+    (all_zip first second IsAmong xs chosen k d lt)) in
+    omega (arith, few, count_differences second third xs, count_zip first third is_misread xs))
+  where
+    other : (m : List ℕ) (v w : ℕ) → Contains (choices m) v → is_misread m w ≡ true → not (v == w) ≡ true
+    other m v w has misread = differs_if v w (λ same. false≢true (sym (chosen_is_read m v has) ∙ ap (is_misread m) same ∙ misread))
 
-pub counted_open : (m : List ℕ) (ms : List (List ℕ)) → is_open m ≡ true → count_by is_open (m ∷ ms) ≡ 1 + count_by is_open ms
-counted_open m ms e = sum_by-cons (λ x. cond (is_open x) 1 0) m ms ∙ ap (λ (b : Bool). cond {A = ℕ} b 1 0 + count_by is_open ms) e
-
-pub counted_closed : (m : List ℕ) (ms : List (List ℕ)) → is_open m ≡ false → count_by is_open (m ∷ ms) ≡ 0 + count_by is_open ms
-counted_closed m ms e = sum_by-cons (λ x. cond (is_open x) 1 0) m ms ∙ ap (λ (b : Bool). cond {A = ℕ} b 1 0 + count_by is_open ms) e
-
-open_few : (marks : List (List ℕ)) (ws : List ℕ) → length marks ≡ length ws → count_by is_open marks ≤ count_of_places is_doubtful marks ws
-open_few [] ws n = omega arith
-open_few (m ∷ ms) [] n = absurd (omega (arith, n))
-open_few (m ∷ ms) (w ∷ ws) n =
-    let rest = open_few ms ws (omega (arith, n)) in
-    by_test _ (is_open m)
-    (λ yes.
-    let a = counted_open m ms yes in
-    let b = place_counted is_doubtful m w ms ws (ap (λ c. c || is_misread m w) yes) in
-    omega (arith, a, b, rest))
-    (λ no.
-    let a = counted_closed m ms no in
-    by_test _ (is_doubtful m w)
-    (λ doubt. let b = place_counted is_doubtful m w ms ws doubt in omega (arith, a, b, rest))
-    (λ sure. let b = place_passed is_doubtful m w ms ws sure in omega (arith, a, b, rest)))
+open_few : (marks : List (List ℕ)) (ws others : List ℕ) → length marks ≡ length ws → length ws ≡ length others
+    → count_by is_open marks ≤ count_of_places is_doubtful marks ws
+open_few = by_places _ (λ xs.
+    let few = fewer (λ x. is_open x.0) (λ x. is_doubtful x.0 x.1.0) xs (λ k d lt yes. ap (λ b. b || is_misread (get_or xs k d).0 (get_or xs k d).1.0) yes) in
+    omega (arith, few, count_map first is_open xs, count_zip first second is_doubtful xs))
 
 -- words for which the same marks stand differ in open places alone
-open_differences : (marks : List (List ℕ)) (vs ws : List ℕ) → AreChosen marks vs → AreChosen marks ws → count_of_differences vs ws ≤ count_by is_open marks
-open_differences [] [] ws p q = omega arith
-open_differences [] (v ∷ vs) ws p q = absurd p
-open_differences (m ∷ ms) [] ws p q = absurd p
-open_differences (m ∷ ms) (v ∷ vs) [] p q = absurd q
-open_differences (m ∷ ms) (v ∷ vs) (w ∷ ws) p q =
-    let rest = open_differences ms vs ws p.1 q.1 in
-    by_test _ (is_open m)
-    (λ yes. let a = counted_open m ms yes in let b = differ_most v w vs ws in omega (arith, a, b, rest))
-    (λ no. let a = counted_closed m ms no in let b = differ_same v w vs ws (only_one (choices m) v w no p.0 q.0) in omega (arith, a, b, rest))
+open_differences : (marks : List (List ℕ)) (vs ws : List ℕ) → length marks ≡ length vs → length vs ≡ length ws → AreChosen marks vs → AreChosen marks ws
+    → count_of_differences vs ws ≤ count_by is_open marks
+open_differences = by_places _ (λ xs one two.
+    let few = fewer (λ x. not (x.1.0 == x.1.1)) (λ x. is_open x.0) xs (λ k d lt. opened _ _ _
+    (all_zip first second IsAmong xs one k d lt)
+    (all_zip first third IsAmong xs two k d lt)) in
+    omega (arith, few, count_differences second third xs, count_map first is_open xs))
+  where
+    opened : (m : List ℕ) (v w : ℕ) → Contains (choices m) v → Contains (choices m) w → not (v == w) ≡ true → is_open m ≡ true
+    opened m v w has also other = by_test _ (is_open m) (λ yes. yes) (λ no. absurd (differs v w other (only_one (choices m) v w no has also)))
 
 -- ---- flags
 
@@ -229,7 +186,7 @@ fit_alike line vs ws f g few p q flags =
     let all = chosen_below (words_of line) vs p.words in
     let all' = chosen_below (words_of line) ws q.words in
     let n : length vs ≡ length ws = sym (chosen_length (words_of line) vs p.words) ∙ chosen_length (words_of line) ws q.words in
-    let most = open_differences (words_of line) vs ws p.words q.words in
+    let most = open_differences (words_of line) vs ws (chosen_length (words_of line) vs p.words) n p.words q.words in
     ⊎_elim
     (λ none. no_difference vs ws n none)
     (λ some.
@@ -291,20 +248,21 @@ module _ (line mnemonic : List ℕ) (share : ShareFields) (m : IsMisreadLine lin
 
   bad_line : (words : List ℕ) → AreChosen (words_of line) words → Reads (spelling words) (Err words_BadChecksum)
   bad_line words p =
-      let n : length words ≡ length mnemonic = sym (chosen_length (words_of line) words p) ∙ m.same_count in
+      let long = chosen_length (words_of line) words p in
+      let n : length words ≡ length mnemonic = sym long ∙ m.same_count in
       let two = two_at_least (length mnemonic) count in
       let second : get_or words 1 0 ≡ get_or mnemonic 1 0 =
       chosen_sure (words_of line) words mnemonic 1 p m.in_list (omega (arith, m.same_count, two)) m.same_count m.second in
       bad_spelling words mnemonic share (chosen_below (words_of line) words p) m.in_list m.spells n
       (same_flags words mnemonic (omega (arith, n, two)) n second)
-      (differences_some (words_of line) words mnemonic p m.some)
-      (omega (arith, differences_few (words_of line) words mnemonic p m.in_list, m.few))
+      (omega (arith, differences_some (words_of line) words mnemonic long n p, m.some))
+      (omega (arith, differences_few (words_of line) words mnemonic long n p m.in_list, m.few))
 
   none_fits : (words : List ℕ) (found : ShareFields) → Fits line words found → ⊥
   none_fits words found fits = bad_isn't_spelled words found (bad_line words fits.words) fits.spells
 
   few_open : open_count line ≤ most_open
-  few_open = omega (arith, open_few (words_of line) mnemonic m.same_count, m.few)
+  few_open = omega (arith, open_few (words_of line) mnemonic mnemonic m.same_count refl, m.few)
 
   not_padding : (words : List ℕ) → IsWhole line words → Reads (spelling words) (Err words_BadPadding) → ⊥
   not_padding words whole reads =

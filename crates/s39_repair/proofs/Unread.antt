@@ -1,14 +1,15 @@
 -- Lines in which words of a mnemonic are read in part, or misread.
-use Rattle.std.proofs.Common.{◌≡◌, ◌≢◌, ℕ, zero, suc, ◌+◌, ◌-◌, ◌<◌, ◌≤◌, ◌⊎◌, true, false, cond, List, [], ◌∷◌, ◌++◌, length, get_or, map, take}
+use Rattle.std.proofs.Common.{◌≡◌, ◌≢◌, ℕ, zero, suc, ◌+◌, ◌-◌, ◌<◌, ◌≤◌, ◌⊎◌, inl, inr, Bool, true, false, cond, List, [], ◌∷◌, ◌++◌, length, get_or, map, take, zip}
 use Rattle.std.proofs.Common.{Option, Some, None, Result, Ok, refl, sym, ap, subst, ◌∙◌, arith}
 use Rattle.std.specs.Prelude.{All, Contains, count_by, is_some, not, ◌==◌, ◌||◌}
 use Rattle.std.specs.List.{join_with_byte}
 use Rattle.std.proofs.Math.ListN.{set}
-use Rattle.std.proofs.lemmas.Bool.{eqb-true, eq-eqb, le-ltb, false≢true}
+use Rattle.std.proofs.lemmas.Bool.{eqb-true, le-ltb, false≢true}
 use Rattle.std.proofs.lemmas.List.{length-append, length-set, get_or-set_other}
 use Rattle.std.proofs.lemmas.List.Elements.{All-nil, All-cons, All-append, All-head, All-tail, All-set, All-take}
 use Rattle.std.proofs.lemmas.List.FromFn.{length-range_with_len}
-use Rattle.std.proofs.lemmas.List.Sums.{sum_by-cons}
+use Rattle.std.proofs.lemmas.List.Sums.{get_or-le-sum_by}
+use Rattle.std.proofs.lemmas.Slice.Zip.{get_or-zip, length-zip}
 use Rattle.s39_lists.proofs.Ranges.{Contains-range_from}
 use Rattle.s39_words.specs.Layout.{IsIndex}
 use Rattle.s39_words.specs.Mistyping.{count_of_differences}
@@ -30,9 +31,9 @@ use Rattle.s39_repair.proofs.Candidates.{spelled_indices}
 use Rattle.s39_repair.proofs.Choices.{front_stands, word_choices}
 use Rattle.s39_repair.proofs.ComesBack.{chosen_known, comes_back, only_one}
 use Rattle.s39_repair.proofs.MarksRead.{AreChosen, position_nowhere}
-use Rattle.s39_repair.proofs.Misread.{by_test, chosen_from, chosen_is_read, counted_closed, counted_open, differ_least, differ_not, differ_same}
-use Rattle.s39_repair.proofs.Misread.{one_fits_closed, place_counted, place_passed, spelled_count}
+use Rattle.s39_repair.proofs.Misread.{by_test, chosen_from, chosen_is_read, one_fits_closed, spelled_count}
 use Rattle.s39_repair.proofs.OneAnswer.{one_answer}
+use Rattle.s39_repair.proofs.Places.{all_mapped, by_places, count_differences, count_map, count_zip, counts_below, fewer, first, second, third}
 
 -- ---- one mark
 
@@ -61,33 +62,34 @@ length-marks [] read n = refl
 length-marks (i ∷ is) [] n = absurd (omega (arith, n))
 length-marks (i ∷ is) (r ∷ rs) n = ap suc (length-marks is rs (omega (arith, n)))
 
-counted_some : (n : ℕ) (rs : List (Option ℕ)) → unread_count (Some n ∷ rs) ≡ 1 + unread_count rs
-counted_some n rs = sum_by-cons (λ r. cond (is_some r) 1 0) (Some n) rs
-
-counted_none : (rs : List (Option ℕ)) → unread_count (None ∷ rs) ≡ 0 + unread_count rs
-counted_none rs = sum_by-cons (λ r. cond (is_some r) 1 0) None rs
+marks_map : {X : Type 0} (f : X → ℕ) (g : X → Option ℕ) (xs : List X) → marks_of (map f xs) (map g xs) ≡ map (λ x. mark_of (f x) (g x)) xs
+marks_map f g [] = refl
+marks_map f g (x ∷ xs) = ap (λ (ms : List (List ℕ)). mark_of (f x) (g x) ∷ ms) (marks_map f g xs)
 
 -- only words of which letters are read are open
-open_at_most : (words : List ℕ) (read : List (Option ℕ)) → All IsIndex words → count_by is_open (marks_of words read) ≤ unread_count read
-open_at_most [] read all = omega arith
-open_at_most (i ∷ is) [] all = omega arith
-open_at_most (i ∷ is) (None ∷ rs) all =
-    let rest = open_at_most is rs (All-tail IsIndex i is all) in
-    let here = counted_closed (listed_word i) (marks_of is rs) (word_is_closed i (All-head IsIndex i is all)) in
-    omega (arith, here, rest, counted_none rs)
-open_at_most (i ∷ is) (Some n ∷ rs) all =
-    let rest = open_at_most is rs (All-tail IsIndex i is all) in
-    let mark = take n (listed_word i) ++ 63 ∷ [] in
-    by_test _ (is_open mark)
-    (λ yes. let here = counted_open mark (marks_of is rs) yes in omega (arith, here, rest, counted_some n rs))
-    (λ no. let here = counted_closed mark (marks_of is rs) no in omega (arith, here, rest, counted_some n rs))
+open_at_most : (words : List ℕ) (read others : List (Option ℕ)) → length words ≡ length read → length read ≡ length others → All IsIndex words
+    → count_by is_open (marks_of words read) ≤ unread_count read
+open_at_most = by_places _ (λ xs all.
+    let few = fewer (λ x. is_open (mark_of x.0 x.1.0)) (λ x. is_some x.1.0) xs (λ k d lt. some _ _
+    (all_mapped IsIndex first xs all k d lt)) in
+    omega (
+      arith,
+      few,
+      ap (count_by is_open) (marks_map first second xs),
+      count_map (λ x. mark_of x.0 x.1.0) is_open xs,
+      count_map second is_some xs,
+    ))
+  where
+    some : (i : ℕ) (r : Option ℕ) → IsIndex i → is_open (mark_of i r) ≡ true → is_some r ≡ true
+    some i (Some n) lt opens = refl
+    some i None lt opens = absurd (false≢true (sym (word_is_closed i lt) ∙ opens))
 
 module _ (line words : List ℕ) (read : List (Option ℕ)) (all : All IsIndex words) (is : IsReadAs line words read) where
   pub words_chosen : AreChosen (words_of line) words
   words_chosen = subst (λ marks. AreChosen marks words) (sym is.marks) (marks_chosen words read all is.same_count)
 
   pub few_open : open_count line ≤ unread_count read
-  few_open = subst (λ marks. count_by is_open marks ≤ unread_count read) (sym is.marks) (open_at_most words read all)
+  few_open = subst (λ marks. count_by is_open marks ≤ unread_count read) (sym is.marks) (open_at_most words read read (sym is.same_count) refl all)
 
   pub all_known : first_unknown line ≡ None
   all_known = position_nowhere (λ mark. not (is_known mark)) (words_of line) [] (chosen_known (words_of line) words words_chosen)
@@ -178,51 +180,29 @@ other_misread v w lt lt' off = by_test _ (is_misread (listed_word v) w)
     (λ yes. yes)
     (λ no. absurd (off (only_one (choices (listed_word v)) v w (word_is_closed v lt) (word_among v lt) (chosen_from (listed_word v) w lt' no))))
 
-doubtful_at_most : (words mnemonic : List ℕ) (read : List (Option ℕ)) → All IsIndex words → length words ≡ length mnemonic
+doubtful_at_most : (words mnemonic : List ℕ) (read : List (Option ℕ)) → length words ≡ length mnemonic → length mnemonic ≡ length read → All IsIndex words
     → count_of_places is_doubtful (marks_of words read) mnemonic ≤ count_of_differences words mnemonic + unread_count read
-doubtful_at_most [] mnemonic read all n = omega arith
-doubtful_at_most (v ∷ vs) mnemonic [] all n = omega arith
-doubtful_at_most (v ∷ vs) [] (r ∷ rs) all n = absurd (omega (arith, n))
-doubtful_at_most (v ∷ vs) (w ∷ ws) (Some m ∷ rs) all n =
-    let rest = doubtful_at_most vs ws rs (All-tail IsIndex v vs all) (omega (arith, n)) in
-    let mark = take m (listed_word v) ++ 63 ∷ [] in
-    let least = differ_least v w vs ws in
-    by_test _ (is_doubtful mark w)
-    (λ yes. let here = place_counted is_doubtful mark w (marks_of vs rs) ws yes in omega (arith, here, rest, least, counted_some m rs))
-    (λ no. let here = place_passed is_doubtful mark w (marks_of vs rs) ws no in omega (arith, here, rest, least, counted_some m rs))
-doubtful_at_most (v ∷ vs) (w ∷ ws) (None ∷ rs) all n =
-    let rest = doubtful_at_most vs ws rs (All-tail IsIndex v vs all) (omega (arith, n)) in
-    let lt = All-head IsIndex v vs all in
-    by_test _ (v == w)
-    (λ e.
-    let same = eqb-true v w e in
-    let sure : is_doubtful (listed_word v) w ≡ false =
-    ap (λ b. b || is_misread (listed_word v) w) (word_is_closed v lt) ∙ subst (λ u. is_misread (listed_word v) u ≡ false) same (word_stands v lt) in
-    let here = place_passed is_doubtful (listed_word v) w (marks_of vs rs) ws sure in
-    omega (arith, here, rest, differ_same v w vs ws same, counted_none rs))
-    (λ e.
-    let more = differ_not v w vs ws (λ same. false≢true (sym e ∙ eq-eqb v w same)) in
-    by_test _ (is_doubtful (listed_word v) w)
-    (λ yes. let here = place_counted is_doubtful (listed_word v) w (marks_of vs rs) ws yes in omega (arith, here, rest, more, counted_none rs))
-    (λ no. let here = place_passed is_doubtful (listed_word v) w (marks_of vs rs) ws no in omega (arith, here, rest, more, counted_none rs)))
-
--- a word that is read and is another one is misread
-misread_at_least : (words mnemonic : List ℕ) (read : List (Option ℕ)) (place : ℕ) → All IsIndex words → All IsIndex mnemonic
-    → length words ≡ length mnemonic → length read ≡ length words → place < length words → get_or read place None ≡ None
-    → get_or words place 0 ≢ get_or mnemonic place 0 → 1 ≤ count_of_places is_misread (marks_of words read) mnemonic
-misread_at_least [] mnemonic read place all all' n m within whole off = absurd (omega arith)
-misread_at_least (v ∷ vs) [] read place all all' n m within whole off = absurd (omega (arith, n))
-misread_at_least (v ∷ vs) (w ∷ ws) [] place all all' n m within whole off = absurd (omega (arith, m))
-misread_at_least (v ∷ vs) (w ∷ ws) (r ∷ rs) zero all all' n m within whole off =
-    let misread : is_misread (mark_of v r) w ≡ true =
-    ap (λ o. is_misread (mark_of v o) w) whole ∙ other_misread v w (All-head IsIndex v vs all) (All-head IsIndex w ws all') off in
-    omega (arith, place_counted is_misread (mark_of v r) w (marks_of vs rs) ws misread)
-misread_at_least (v ∷ vs) (w ∷ ws) (r ∷ rs) (suc place) all all' n m within whole off =
-    let rest = misread_at_least vs ws rs place (All-tail IsIndex v vs all) (All-tail IsIndex w ws all')
-    (omega (arith, n)) (omega (arith, m)) (omega arith) whole off in
-    by_test _ (is_misread (mark_of v r) w)
-    (λ yes. omega (arith, place_counted is_misread (mark_of v r) w (marks_of vs rs) ws yes))
-    (λ no. omega (arith, place_passed is_misread (mark_of v r) w (marks_of vs rs) ws no, rest))
+doubtful_at_most = by_places _ (λ xs all.
+    let few = counts_below (λ x. is_doubtful (mark_of x.0 x.1.1) x.1.0) (λ x. not (x.0 == x.1.0)) (λ x. is_some x.1.1) xs
+    (λ k d lt. either _ _ _ (all_mapped IsIndex first xs all k d lt)) in
+    omega (
+      arith,
+      few,
+      ap (λ ms. count_of_places is_doubtful ms (map second xs)) (marks_map first third xs),
+      count_zip (λ x. mark_of x.0 x.1.1) second is_doubtful xs,
+      count_differences first second xs,
+      count_map third is_some xs,
+    ))
+  where
+    either : (v w : ℕ) (r : Option ℕ) → IsIndex v → is_doubtful (mark_of v r) w ≡ true → (not (v == w) ≡ true) ⊎ (is_some r ≡ true)
+    either v w (Some n) lt doubt = inr refl
+    either v w None lt doubt = by_test _ (v == w)
+        (λ e.
+        let sure : is_doubtful (listed_word v) w ≡ false =
+        ap (λ b. b || is_misread (listed_word v) w) (word_is_closed v lt)
+        ∙ subst (λ u. is_misread (listed_word v) u ≡ false) (eqb-true v w e) (word_stands v lt) in
+        absurd (false≢true (sym sure ∙ doubt)))
+        (λ e. inl (ap not e))
 
 mark_at : (words : List ℕ) (read : List (Option ℕ)) (place : ℕ) → length read ≡ length words → place < length words → get_or read place None ≡ None
     → get_or (marks_of words read) place [] ≡ listed_word (get_or words place 0)
@@ -230,6 +210,22 @@ mark_at [] read place n within whole = absurd (omega arith)
 mark_at (i ∷ is) [] place n within whole = absurd (omega (arith, n))
 mark_at (i ∷ is) (r ∷ rs) zero n within whole = ap (mark_of i) whole
 mark_at (i ∷ is) (r ∷ rs) (suc place) n within whole = mark_at is rs place (omega (arith, n)) (omega arith) whole
+
+-- a word that is read and is another one is misread
+misread_at_least : (words mnemonic : List ℕ) (read : List (Option ℕ)) (place : ℕ) → All IsIndex words → All IsIndex mnemonic
+    → length words ≡ length mnemonic → length read ≡ length words → place < length words → get_or read place None ≡ None
+    → get_or words place 0 ≢ get_or mnemonic place 0 → 1 ≤ count_of_places is_misread (marks_of words read) mnemonic
+misread_at_least words mnemonic read place all all' n m within whole off =
+    let marks = marks_of words read in
+    let short : place < length marks = omega (arith, length-marks words read m, within) in
+    let below : place < length mnemonic = omega (arith, n, within) in
+    let here : get_or (zip marks mnemonic) place ([], 0) ≡ (listed_word (get_or words place 0), get_or mnemonic place 0) =
+    get_or-zip marks mnemonic place ([], 0) short below ∙ ap (λ (mark : List ℕ). (mark, get_or mnemonic place 0)) (mark_at words read place m within whole) in
+    let misread = other_misread (get_or words place 0) (get_or mnemonic place 0) (all place 0 within) (all' place 0 below) off in
+    let passes = ap (λ (p : List ℕ × ℕ). cond {A = ℕ} (is_misread p.0 p.1) 1 0) here ∙ ap (λ (b : Bool). cond {A = ℕ} b 1 0) misread in
+    let counted = get_or-le-sum_by (λ (p : List ℕ × ℕ). cond {A = ℕ} (is_misread p.0 p.1) 1 0) (zip marks mnemonic) place ([], 0)
+    (omega (arith, length-zip marks mnemonic, short, below)) in
+    omega (arith, passes, counted)
 
 pub misread_line : (line words mnemonic : List ℕ) (read : List (Option ℕ)) (share : ShareFields) (place : ℕ)
     → All IsIndex mnemonic → Spells (spelling mnemonic) share → All IsIndex words → length words ≡ length mnemonic → IsReadAs line words read
@@ -250,7 +246,7 @@ misread_line line words mnemonic read share place all' spells all n is few withi
       some = subst (λ marks. 1 ≤ count_of_places is_misread marks mnemonic) (sym is.marks)
           (misread_at_least words mnemonic read place all all' n is.same_count within whole off);
       few =
-          let most = doubtful_at_most words mnemonic read all n in
+          let most = doubtful_at_most words mnemonic read n (sym n ∙ sym is.same_count) all in
           subst (λ marks. count_of_places is_doubtful marks mnemonic ≤ most_open) (sym is.marks) (omega (arith, most, few));
       second =
           ap (λ mark. is_doubtful mark (get_or mnemonic 1 0)) here
@@ -278,7 +274,7 @@ length-all_read (i ∷ is) = ap suc (length-all_read is)
 none_unread : (words : List ℕ) → unread_count (all_read words) ≡ 0
 unfolding all_read
 none_unread [] = refl
-none_unread (i ∷ is) = omega (arith, counted_none (all_read is), none_unread is)
+none_unread (i ∷ is) = none_unread is
 
 whole_line : (words : List ℕ) → All IsIndex words → IsWordCount (length words) → IsWhole (spelling words) words
 whole_line words all count =

@@ -1,5 +1,5 @@
 -- A mnemonic and a line in which some of its words are open or misread.
-use Rattle.std.specs.Prelude.{◌≡◌, ◌≢◌, ℕ, suc, false, ◌<◌, ◌≤◌, List, [], ◌∷◌, None, Bool, ◌||◌, All, not, length, slice_index, slice_index_or, if◌then◌else◌}
+use Rattle.std.specs.Prelude.{◌≡◌, ◌≢◌, ℕ, false, ◌<◌, ◌≤◌, List, [], None, Bool, ◌||◌, All, count_by, not, length, slice_index, slice_index_or, zip}
 use Rattle.s39_words.specs.declared.share.ShareFields.{ShareFields}
 use Rattle.s39_words.specs.Layout.{IsIndex}
 use Rattle.s39_words.specs.Printing.{listed_word}
@@ -17,10 +17,7 @@ is_doubtful mark index = is_open mark || is_misread mark index
 
 -- the number of places whose mark and word pass a test
 abbrev pub count_of_places : (List ℕ → ℕ → Bool) → List (List ℕ) → List ℕ → ℕ
-count_of_places test [] words = 0
-count_of_places test (mark ∷ marks) [] = 0
-count_of_places test (mark ∷ marks) (word ∷ words) =
-    if test mark word then suc (count_of_places test marks words) else count_of_places test marks words
+count_of_places test marks words = count_by (λ place. test place.0 place.1) (zip marks words)
 
 -- The line says another thing than the mnemonic of the share in some places, and at most three are misread or open. Each
 -- mark stands for a word, and the second for that of the mnemonic alone.

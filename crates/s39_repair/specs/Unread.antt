@@ -1,5 +1,5 @@
 -- A line in which words can be read in part.
-use Rattle.std.specs.Prelude.{◌≡◌, ℕ, List, [], ◌∷◌, ◌++◌, Option, Some, None, count_by, is_some, length, take}
+use Rattle.std.specs.Prelude.{◌≡◌, ℕ, List, [], ◌∷◌, ◌++◌, Option, Some, None, count_by, is_some, length, map, take, zip}
 use Rattle.s39_words.specs.Printing.{listed_word}
 use Rattle.s39_words.specs.Spelling.{words_of}
 
@@ -10,9 +10,7 @@ mark_of index (Some letters) = take letters (listed_word index) ++ 63 ∷ []
 
 -- what is written for each of these words
 abbrev pub marks_of : List ℕ → List (Option ℕ) → List (List ℕ)
-marks_of [] read = []
-marks_of (index ∷ words) [] = []
-marks_of (index ∷ words) (letters ∷ read) = mark_of index letters ∷ marks_of words read
+marks_of words read = map (λ place. mark_of place.0 place.1) (zip words read)
 
 -- The line has these words. Of some of them, only so many letters are read.
 pub record IsReadAs (line words : List ℕ) (read : List (Option ℕ)) : Type 0 where
