@@ -27,7 +27,7 @@ pub use crate::reissue_laws::{created_backups_reissue, one_reissue_output};
 pub use crate::resplit_laws::{
     backups_from_encrypted_are_short, created_backups_are_split_anew,
     encrypted_secrets_give_what_create_writes, one_output_from_encrypted, one_resplit_output,
-    resplit_writes_what_create_writes, resplits_are_short,
+    only_these_hinder_a_split, resplit_writes_what_create_writes, resplits_are_short,
 };
 pub use crate::round_trips::{
     every_backup_is_written, one_output_of_a_backup, written_mnemonics_reissue,

@@ -1,25 +1,28 @@
 //! What `resplit` writes, and what is written of an encrypted secret: facts about the definitions. Each is the contract of a
 //! function that does nothing.
-ghost use Rattle.std.specs.Prelude.{◌≡◌, ◌≤◌, ℕ, List, All, Result, Ok, length};
+ghost use Rattle.std.specs.Prelude.{◌≡◌, ◌≤◌, ◌⊎◌, ℕ, List, All, Result, Ok, length};
 ghost use Rattle.s39_kdf.specs.declared.params.Params.{Params};
 ghost use Rattle.s39_kdf.specs.Bytes.{AreBytes};
 ghost use Rattle.s39_kdf.specs.Cipher.{IsEncryption};
 ghost use Rattle.s39_kdf.specs.Limits.{IsPrintable};
 ghost use Rattle.s39_words.specs.declared.ShareFields.{ShareFields};
+ghost use Rattle.s39_set.specs.declared.SetLack.{SetLack};
 ghost use Rattle.s39_set.specs.Names.{Names};
 ghost use Rattle.s39_set.specs.Quorums.{IsLeastQuorum};
 ghost use Rattle.s39_backup.specs.declared.plan.Members.{Members};
 ghost use Rattle.s39_backup.specs.declared.options.Options.{Options};
 ghost use Rattle.s39_backup.specs.Plan.{IsPlan};
-ghost use Rattle.s39_backup.specs.Created.{asked_for};
+ghost use Rattle.s39_backup.specs.Created.{Asked, asked_for};
 ghost use Rattle.s39_backup.specs.Outcome.{IsOutcome};
 ghost use Rattle.s39_backup.specs.Resplit.{options_of};
 ghost use Rattle.s39_input.specs.declared.fault.Fault.{Fault};
+ghost use Rattle.s39_input.specs.declared.fault.Refusal.{Refusal};
+ghost use Rattle.s39_input.specs.declared.fault.Refusal.TheVariants.{Lack, NotExtendable, RandomLength, SameIdentifier};
 ghost use Rattle.s39_input.specs.Input.{Input, whole};
 ghost use Rattle.s39_input.specs.Accepted.{IsReadAs};
 ghost use Rattle.s39_input.specs.Create.{IsCreateOutput};
 ghost use Rattle.s39_creating.specs.Lengths.{longest_backup};
-ghost use Rattle.s39_creating.specs.Resplit.{IsOutputFromEncrypted, IsResplitOutput, ResplitsCreated};
+ghost use Rattle.s39_creating.specs.Resplit.{Hinders, IsOutputFromEncrypted, IsResplitOutput, ResplitsCreated};
 
 use crate::length_laws::backups_are_short;
 use s39_backup::laws::{
@@ -97,6 +100,14 @@ pub fn created_backups_are_split_anew()
     encryption_keeps_length_and_bytes();
     resplits_are_created_backups();
 }
+
+/// Nothing else is a reason to write nothing then: no other refusal hinders a split anew.
+pub fn only_these_hinder_a_split()
+    ensures { (set : List ShareFields) (asked : Asked) (random : List ℕ) (refusal : Refusal)
+        → Hinders set asked random refusal
+        → ((lack : SetLack) × (refusal ≡ Lack lack)) ⊎ ((refusal ≡ NotExtendable)
+        ⊎ (((needed : ℕ) × (refusal ≡ RandomLength needed)) ⊎ (refusal ≡ SameIdentifier))) }
+{}
 
 /// The mnemonics that `resplit` writes take at most 253,440 bytes, including the line feeds.
 pub fn resplits_are_short()
