@@ -35,6 +35,11 @@ class Screen:
             self.above.append("".join(self.rows.pop(0)).rstrip())
             self.rows.append([" "] * self.columns)
 
+    def erase_above(self):
+        for row in self.rows[: self.y]:
+            row[:] = [" "] * self.columns
+        self.rows[self.y][: self.x + 1] = [" "] * (self.x + 1)
+
     def erase_below(self):
         self.rows[self.y][self.x :] = [" "] * (self.columns - self.x)
         for row in self.rows[self.y + 1 :]:
@@ -51,9 +56,12 @@ class Screen:
 
 
 class Emulator:
-    """The terminal. `colours` counts the sequences that set a colour or a weight, and `sequences` all."""
+    """The terminal. `colours` counts the sequences that set a colour or a weight, and `sequences` all. `has_other` says whether it has an
+    alternate screen. If not, what is cleared goes to the scrollback. If it is None, the terminal also tells nothing of itself. `clears_kept` says
+    whether it can clear its scrollback. `answers` is what it sends."""
 
-    def __init__(self, columns, rows):
+    def __init__(self, columns, rows, has_other=True, clears_kept=True):
+        self.has_other, self.clears_kept, self.answers = has_other, clears_kept, b""
         self.main, self.other = Screen(columns, rows), Screen(columns, rows)
         self.shown = self.main
         self.colours = self.sequences = 0
@@ -99,20 +107,32 @@ class Emulator:
     def _control(self, private, numbers, letter):
         self.sequences += 1
         screen = self.shown
-        if private and numbers == "1049":
+        if private and numbers == "1049" and not self.has_other:
+            pass
+        elif private and numbers == "1049":
             self._keep()
             if letter == "h":
                 self.other.clear()
             self.shown = self.other if letter == "h" else self.main
-        elif letter == "H" and not numbers:
-            screen.x = screen.y = 0
+        elif letter == "H":
+            row, column = map(int, (numbers or "1;1").split(";"))
+            screen.y, screen.x = min(row, screen.count) - 1, min(column, screen.columns) - 1
             screen.is_full = False
+        elif letter == "n" and numbers == "6":
+            self.answers += b"" if self.has_other is None else f"\x1b[{screen.y + 1};{screen.x + 1}R".encode()
         elif letter == "J":
             if numbers == "2":
                 self._keep()
                 at = screen.x, screen.y
+                if not self.has_other:
+                    screen.above += screen.text().split("\n")
                 screen.clear()
                 screen.x, screen.y = at
+            elif numbers == "1":
+                self._keep()
+                screen.erase_above()
+            elif numbers == "3" and self.clears_kept:
+                screen.above.clear()
             elif numbers in ("", "0"):
                 screen.erase_below()
         elif letter == "A":
@@ -127,6 +147,8 @@ class Emulator:
         if self.shown is self.other:
             self.seen += [*self.other.above, *self.other.text().split("\n")]
             self.other.above = []
+        elif not self.has_other:
+            self.seen += [*self.main.above, *self.main.text().split("\n")]
 
     def kept(self):
         """Returns what the terminal keeps when the program is gone: the rows of the main screen, and those above it."""

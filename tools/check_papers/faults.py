@@ -23,8 +23,12 @@ from hands import BINDING, ROOT, Failed, habits
 
 # What is planted: its name, the module, what stands there, what takes its place, and the check that must fail.
 FAULTS = [
-    ("a paper is shown outside the alternate screen", "terminal", 'self._put(ENTER_SCREEN + CLEAR)', "self._put(CLEAR)", tasks.check),
-    ("the screen isn't cleared at the end", "terminal", 'self._put(CLEAR + (CLEAR_KEPT if self._is_console else "") + LEAVE_SCREEN)', "self._put(LEAVE_SCREEN)", tasks.check),
+    ("a paper is shown outside the alternate screen", "terminal", 'self._put(ENTER_SCREEN + clear)', "self._put(clear)", tasks.check),
+    ("the screen isn't cleared at the end", "terminal", 'self._put(self._clear + (CLEAR_KEPT if self._is_console else "") + LEAVE_SCREEN)', "self._put(LEAVE_SCREEN)", tasks.check),
+    ("a second screen is taken for granted", "terminal", "            self.keeps_lines = self._ignores_screen()\n", "            pass\n", scrollback.check),
+    ("lines that left the screen stay in the scrollback", "terminal", '(CLEAR_KEPT if self._clears_kept else "")', '""', scrollback.check),
+    ("what is cleared goes to the scrollback", "terminal", "(CLEAR_BACKWARDS if self.keeps_lines else CLEAR)", "CLEAR", lambda see: traces.check_no_second_screen()),
+    ("that a scrollback keeps lines isn't told", "safety", "    elif keeps_lines:\n", "    elif False:\n", lambda see: traces.check_warnings()),
     ("Ctrl-Z leaves the screen as it is", "terminal", "        self._leave()\n        signal.signal(signal.SIGTSTP, signal.SIG_DFL)", "        signal.signal(signal.SIGTSTP, signal.SIG_DFL)", scrollback.check),
     ("the echo stays off", "terminal", "self._set(termios.TCSAFLUSH, self._saved)", "pass", tasks.check),
     ("a passphrase is shown", "line", "        if not self._is_hidden:\n            self._terminal.write(_shown(more))", "        self._terminal.write(_shown(more))", lambda see: check_hidden()),
@@ -169,7 +173,7 @@ FAULTS = [
     ("a line for an unreadable word is lost", "spelling", 'word = piece.lstrip("0123456789")', 'word = piece.lstrip("0123456789_")', lambda see: astray.check_line()),
     ("another size leaves a full screen as it was", "screen", "            self._terminal.tells_size = True\n", "", lambda see: astray.check_size()),
     ("another size cuts a paper", "terminal", "        if self.tells_size:\n            raise Resized\n", "", lambda see: astray.check_size()),
-    ("another size cuts a screen", "terminal", '            self._put("".join([CLEAR, *self._written]))', "            pass", lambda see: astray.check_size()),
+    ("another size cuts a screen", "terminal", '            self._put("".join([self._clear, *self._written]))', "            pass", lambda see: astray.check_size()),
     ("another size takes a note away", "screen", "        while not is_done:\n            self._notice, self._notice_style = notice\n", "        while not is_done:\n", lambda see: change.check_ways()),
     ("lines of a paste are answers", "screen", "                elif self.is_pasted(PASTE_SECONDS):\n                    self.drop_typed()\n", "", lambda see: pasted.check_answers()),
     ("the wallet's number of words doesn't count", "secret", "else drawn(size)", "else drawn(16)", lambda see: steps.check_back()),

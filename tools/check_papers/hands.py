@@ -54,11 +54,11 @@ class Session:
     def __init__(self, *words, **how):
         self._start(*words, **{**getattr(habits, "how", {}), **how})
 
-    def _start(self, *words, columns=80, rows=24, before=(), command=None, package=None, **more):
+    def _start(self, *words, columns=80, rows=24, before=(), command=None, package=None, has_other=True, clears_kept=True, **more):
         self.ours, self.theirs = pty.openpty()
         fcntl.ioctl(self.theirs, termios.TIOCSWINSZ, struct.pack("HHHH", rows, columns, 0, 0))
         self.modes = termios.tcgetattr(self.theirs)
-        self.emulator = Emulator(columns, rows)
+        self.emulator = Emulator(columns, rows, has_other, clears_kept)
         self.width = max(20, min(76, columns - 1))
         given = environment(**more)
         self.is_plain = given["TERM"] == "dumb"
@@ -96,6 +96,9 @@ class Session:
             return False
         self.raw += data
         self.emulator.feed(data)
+        if self.emulator.answers:
+            os.write(self.ours, self.emulator.answers)
+            self.emulator.answers = b""
         return bool(data)
 
     def _before(self):

@@ -1,4 +1,4 @@
-"""The program in a real terminal, tmux, under bash: what its scrollback keeps, Ctrl-Z, and `stty`."""
+"""The program in a real terminal, tmux, under bash: what its scrollback keeps, with an alternate screen and without one, Ctrl-Z, and `stty`."""
 import pathlib
 import re
 import shlex
@@ -7,9 +7,10 @@ import subprocess
 import tempfile
 
 from hands import PATIENCE, PROGRAM, Failed, environment, say
+from refusals import word_prompt
 from tasks import paper_prompt, short
 
-from samples import SECRET, THREE_GROUPS
+from samples import SECRET, THREE_GROUPS, with_words
 
 from tool import waited
 
@@ -17,12 +18,13 @@ from tool import waited
 class Terminal:
     """A bash in tmux. The server of tmux is one of its own."""
 
-    def __init__(self, folder, columns=80, rows=24):
+    def __init__(self, folder, columns=80, rows=24, has_other=True):
         self.tmux = ["tmux", "-S", f"{folder}/socket", "-f", "/dev/null"]
         given = {**environment(), "PS1": "$ ", "HISTFILE": f"{folder}/history"}
         given.pop("TERM")
         start = [*self.tmux, "new-session", "-d", "-s", "it", "-x", str(columns), "-y", str(rows), "exec env 'PS1=$ ' bash --norc --noprofile"]
         subprocess.run(start, env=given, check=True)
+        subprocess.run([*self.tmux, "set", "-w", "alternate-screen", "on" if has_other else "off"], check=True)
         told = subprocess.run([*self.tmux, "display-message", "-p", "-t", "it", "#{pane_pid}"], check=True, capture_output=True, text=True)
         self.shell = pathlib.Path(f"/proc/{int(told.stdout)}/stat")
         self.wait("$")
@@ -78,12 +80,22 @@ def words_in(text):
     return set(re.findall(r"[a-z]+", text)) & set(" ".join(THREE_GROUPS).split()) - {"paper", "echo"}
 
 
-def check_kept(terminal):
-    """Goes through 'check' and 'recover', and looks for words and digits in what tmux keeps."""
+def check_kept(terminal, is_told=False):
+    """Goes through 'recover', and looks for words and digits in what tmux keeps. `is_told` says whether the owner must be told that tmux has
+    no alternate screen."""
     before = terminal.modes()
     terminal.command("clear; " + shlex.join([*PROGRAM, "recover"]))
+    terminal.wait(say("safety.go"))
+    if (say("safety.kept.tmux") in " ".join(terminal.shown().split())) != is_told:
+        raise Failed(f"that tmux has no alternate screen is told: {not is_told}")
     terminal.answer(say("safety.go"), "")
-    for number, line in enumerate(THREE_GROUPS, 1):
+    # So many lines leave the screen.
+    terminal.answer(paper_prompt(1), with_words(THREE_GROUPS[0], {5: "acdemic"}))
+    for letter in "abcdefghij":
+        terminal.answer(word_prompt(5), f"acdem{letter}")
+        waited(lambda: f"acdem{letter}, isn't" in terminal.shown(), PATIENCE)
+    terminal.answer(word_prompt(5), THREE_GROUPS[0].split()[4])
+    for number, line in enumerate(THREE_GROUPS[1:], 2):
         terminal.answer(paper_prompt(number), short(line))
     terminal.answer(paper_prompt(len(THREE_GROUPS) + 1), "")
     terminal.answer(say("passphrase.ask"), "TREZOR")
@@ -191,4 +203,7 @@ def check(see):
             raise Failed("the shell keeps no history, so this check sees nothing")
         if words_in(history.read_text()):
             raise Failed(f"the shell's history has words of papers: {history.read_text()!r}")
+    with tempfile.TemporaryDirectory() as folder, Terminal(folder, has_other=False) as terminal:
+        check_kept(terminal, is_told=True)
+        check_stop(terminal)
     return []

@@ -8,9 +8,9 @@ import subprocess
 import tempfile
 
 from hands import PATIENCE, PROGRAM, Failed, environment, habits, say
-from tasks import Owner, change, check_check, check_new, end_by_keys, make, paper_prompt, started
+from tasks import Owner, change, check_check, check_new, check_recover, check_what, end_by_keys, make, paper_prompt, started
 
-from samples import changed, fingerprint_of, secret_of
+from samples import FINGERPRINT, THREE_GROUPS, changed, fingerprint_of, secret_of
 
 # A passphrase that nothing else has.
 OWN_PASSPHRASE = "7mQ zebra-crossing 4tV"
@@ -31,13 +31,18 @@ def check_files():
     return ""
 
 
-def traced(before, log, task):
+def with_how(how, task):
+    """Returns what a task gives whose sessions have further arguments."""
     earlier = getattr(habits, "how", {})
-    habits.how = {**earlier, "before": before}
+    habits.how = {**earlier, **how}
     try:
-        found = task()
+        return task()
     finally:
         habits.how = earlier
+
+
+def traced(before, log, task):
+    found = with_how({"before": before}, task)
     look_at(log.read_text())
     return found
 
@@ -180,15 +185,21 @@ def check_other_processes():
 
 def check_warnings():
     """What is said before the first question: ssh, GNU screen, and a program that records the terminal."""
-    with Owner("check", SSH_CONNECTION="192.0.2.1 1 192.0.2.2 22", STY="1.here") as owner:
-        owner.wait(say("safety.go"))
-        owner.expect(say("safety.ssh"))
-        owner.expect(say("safety.screen"))
-        end_by_keys(owner)
-    with Owner("check", TERM="vt100") as owner:
-        owner.wait(say("safety.go"))
-        owner.expect(say("safety.kept", kind="vt100"))
-        end_by_keys(owner)
+    kept = [say(f"safety.kept{it}") for it in ("", ".screen", ".tmux")]
+    for how, told in [({"STY": "1.here"}, kept[:2]), ({"TMUX": "/tmp/here,1,0"}, [kept[0], kept[2]]), ({"TERM": "vt100"}, kept[:1])]:
+        for has_other in (False, True):
+            with Owner("check", SSH_CONNECTION="192.0.2.1 1 192.0.2.2 22", has_other=has_other, **how) as owner:
+                owner.wait(say("safety.go"))
+                owner.expect(say("safety.ssh"))
+                if [it for it in kept if " ".join(it.split()) in owner.emulator.all_seen()] != ([] if has_other else told):
+                    raise Failed(f"that there is a second screen: {has_other}, with {how}: the program says {owner.screen()}")
+                end_by_keys(owner)
+    for how, told in [({"STY": "1.here"}, say("safety.screen")), ({"TERM": "vt100"}, say("safety.kept.unknown", kind="vt100"))]:
+        with Owner("check", has_other=None, **how) as owner:
+            owner.wait(say("safety.go"))
+            owner.expect(told)
+            owner.type("\x03")
+            owner.run.wait(PATIENCE)
     if not shutil.which("script"):
         return "script isn't here, so it isn't tried whether the program notices it"
     with tempfile.TemporaryDirectory() as folder:
@@ -200,6 +211,14 @@ def check_warnings():
     return ""
 
 
+def check_no_second_screen():
+    """Where there is no alternate screen, what was shown isn't kept: after whole tasks, and, if the scrollback can't be cleared, as long as no
+    line leaves the screen."""
+    with_how({"has_other": False}, lambda: check_recover(*check_new(None)))
+    with_how({"has_other": False, "clears_kept": False}, lambda: check_what([*THREE_GROUPS, THREE_GROUPS[0]], FINGERPRINT))
+    return ""
+
+
 def check(see):
-    told = [one() for one in (check_files, check_memory, check_forbidden, check_other_processes, check_warnings)]
+    told = [one() for one in (check_no_second_screen, check_files, check_memory, check_forbidden, check_other_processes, check_warnings)]
     return [text for text in told if text]

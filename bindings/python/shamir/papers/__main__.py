@@ -73,9 +73,9 @@ def need_terminal(task: Optional[str]) -> None:
             os._exit(2)
 
 
-def prepare(screen: Screen, kind: str, forbidden: List[str]) -> None:
+def prepare(screen: Screen, terminal: Terminal, kind: str, forbidden: List[str]) -> None:
     """Says what the owner should know before the first question."""
-    told = [*safety.warnings(kind), *forbidden]
+    told = [*safety.warnings(kind, terminal.keeps_lines), *forbidden]
     screen.clear(say("safety.title"))
     for text in told:
         screen.item(text)
@@ -84,6 +84,7 @@ def prepare(screen: Screen, kind: str, forbidden: List[str]) -> None:
     screen.item(say("safety.seen"))
     screen.gap()
     screen.pause(say("safety.go"))
+    terminal.clear_kept()
 
 
 def ask_task(screen: Screen) -> str:
@@ -168,7 +169,7 @@ def main() -> None:
     try:
         terminal.open()
         screen = Screen(terminal)
-        prepare(screen, kind, forbidden)
+        prepare(screen, terminal, kind, forbidden)
         run(screen, desk, args.task, plain_plan("".join(getattr(args, "plan", []))) or None)
     except Ended as by:
         ended = by.number

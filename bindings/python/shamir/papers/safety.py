@@ -60,12 +60,13 @@ def _lock(library: ctypes.CDLL) -> bool:
     return not library.mlockall(MLOCK_CURRENT | MLOCK_FUTURE)
 
 
-def warnings(kind: str) -> List[str]:
-    """Returns what the owner should know of this machine and this terminal. `kind` is the terminal's."""
-    return list(_warnings(kind))
+def warnings(kind: str, keeps_lines: Optional[bool]) -> List[str]:
+    """Returns what the owner should know of this machine and this terminal. `kind` is the terminal's, and `keeps_lines` says whether it ignores
+    the alternate screen, if it tells."""
+    return [*_warnings(), *_warnings_of(kind, keeps_lines)]
 
 
-def _warnings(kind: str) -> Iterator[str]:
+def _warnings() -> Iterator[str]:
     networks = _networks()
     if networks:
         yield say("safety.network", names=", ".join(networks))
@@ -77,15 +78,23 @@ def _warnings(kind: str) -> Iterator[str]:
     recorder = _above(RECORDERS)
     if recorder:
         yield say("safety.recorded", name=recorder)
-    if os.environ.get("STY"):
-        yield say("safety.screen")
+
+
+def _warnings_of(kind: str, keeps_lines: Optional[bool]) -> Iterator[str]:
+    multiplexer = "screen" if os.environ.get("STY") else "tmux" if os.environ.get("TMUX") else ""
     if kind in ("", "dumb", "unknown"):
         yield say("safety.plain", kind=kind)
-    elif _keeps_lines(kind):
-        yield say("safety.kept", kind=kind)
+    elif keeps_lines:
+        yield say("safety.kept")
+        if multiplexer:
+            yield say(f"safety.kept.{multiplexer}")
+    elif keeps_lines is None and multiplexer == "screen":
+        yield say("safety.screen")
+    elif keeps_lines is None and _has_no_screen(kind):
+        yield say("safety.kept.unknown", kind=kind)
 
 
-def _keeps_lines(kind: str) -> bool:
+def _has_no_screen(kind: str) -> bool:
     """Whether a terminal is known to have no alternate screen. The console of Linux has none, but what it keeps can be cleared."""
     try:
         import curses

@@ -1,7 +1,7 @@
 """The terminal: its modes, its alternate screen, its keys, and the signals that end or stop the program.
 
-All that the program shows is on the alternate screen, so that the terminal's scrollback gets none of it. The echo is off; the
-line editor shows what may be shown.
+All that the program shows is on the alternate screen, so that the terminal's scrollback gets none of it. Where a terminal ignores that
+screen, the program clears in a way that keeps less, and the scrollback too. The echo is off; the line editor shows what may be shown.
 """
 from __future__ import annotations
 
@@ -12,6 +12,7 @@ import re
 import select
 import signal
 import termios
+import time
 from types import FrameType
 from typing import Any, Iterator, List, Optional
 
@@ -33,9 +34,15 @@ SEQUENCE = re.compile(rb"\x1b+(\[\[.|\[M...|\[[0-?]*[ -/]*[@-~]?|O[0-9;]*.|[]PX^
 RETURN, LINE_FEED = 13, 10
 
 ENTER_SCREEN, LEAVE_SCREEN = "\x1b[?1049h", "\x1b[?1049l"
+HOME = "\x1b[H"
 CLEAR = "\x1b[0m\x1b[H\x1b[2J"
-# The console of Linux has no alternate screen. This clears what it keeps of lines that left the screen.
+# This clears from the end of the screen to its begin. Where there is no alternate screen, the other way moves all of it into the scrollback.
+CLEAR_BACKWARDS = "\x1b[0m\x1b[999;999H\x1b[1J\x1b[H"
+# This clears what a terminal keeps of lines that left the screen, if it can.
 CLEAR_KEPT = "\x1b[3J"
+# A terminal answers this with the place of its cursor, within this time.
+ASK_PLACE, ANSWER_SECONDS = "\x1b[6n", 0.5
+PLACE = re.compile(rb"\x1b\[(\d+);(\d+)R")
 
 
 class Ended(BaseException):
@@ -76,6 +83,9 @@ class Terminal:
         # Whether another size ends a wait for a key. If not, what was written is written again.
         self.tells_size = False
         self._is_resized = False
+        # Whether the alternate screen is ignored, or None if the terminal doesn't tell, and whether the scrollback is cleared too.
+        self.keeps_lines: Optional[bool] = None
+        self._clears_kept = False
 
     def open(self) -> None:
         """Shows the alternate screen, and takes over the signals."""
@@ -86,7 +96,14 @@ class Terminal:
         signal.signal(signal.SIGCONT, self._go_on)
         signal.signal(signal.SIGWINCH, self._resize)
         self._is_open = True
+        self._try_modes()
+        if not self.is_plain:
+            self.keeps_lines = self._ignores_screen()
         self._enter()
+
+    def clear_kept(self) -> None:
+        """From now on, clears the scrollback with the screen, if lines of the screen go there."""
+        self._clears_kept = bool(self.keeps_lines)
 
     def close(self) -> None:
         """Clears the screen, leaves it, and restores the terminal's modes. What was typed and not read is dropped. If the program was
@@ -101,16 +118,39 @@ class Terminal:
 
     def _enter(self) -> None:
         """Shows the alternate screen, with what was written to it."""
-        self._is_shown = True
+        # What the shell shows may go to the scrollback, and what this program shows may not.
+        clear, self._is_shown = self._clear if self._is_shown else CLEAR, True
+        self._try_modes()
+        if not self.is_plain:
+            self._put(ENTER_SCREEN + clear)
+        for text in self._written:
+            self._put(text)
+
+    @property
+    def _clear(self) -> str:
+        """What clears the screen that this program has shown."""
+        return (CLEAR_BACKWARDS if self.keeps_lines else CLEAR) + (CLEAR_KEPT if self._clears_kept else "")
+
+    def _ignores_screen(self) -> Optional[bool]:
+        """Whether the terminal ignores the alternate screen, or None if it doesn't say where its cursor is. If there is that screen, the cursor
+        is where it was before as soon as it is left."""
+        self._put(f"{ASK_PLACE}\x1b[1;2H{ENTER_SCREEN}{HOME}{LEAVE_SCREEN}{ASK_PLACE}")
+        deadline, answer = time.monotonic() + ANSWER_SECONDS, bytearray()
+        while len(places := PLACE.findall(answer)) < 2 and self.is_typed(max(0, deadline - time.monotonic())):
+            key = self.key(False)
+            answer += b"" if key == NO_KEY else bytes([key])
+        # What was typed meanwhile isn't lost.
+        self.put_back(PLACE.sub(b"", answer))
+        if places:
+            self._put("\x1b[%d;%dH" % (*map(int, places[0]),))
+        return None if len(places) < 2 else places[1] != (b"1", b"2")
+
+    def _try_modes(self) -> None:
         try:
             self._set_modes()
         except termios.error:
             # The terminal is no longer there.
             raise Ended(signal.SIGHUP) from None
-        if not self.is_plain:
-            self._put(ENTER_SCREEN + CLEAR)
-        for text in self._written:
-            self._put(text)
 
     def _set_modes(self) -> None:
         modes = termios.tcgetattr(self._source)
@@ -144,7 +184,7 @@ class Terminal:
             if self.is_plain:
                 self._put("\n")
             else:
-                self._put(CLEAR + (CLEAR_KEPT if self._is_console else "") + LEAVE_SCREEN)
+                self._put(self._clear + (CLEAR_KEPT if self._is_console else "") + LEAVE_SCREEN)
         finally:
             try:
                 self._set(termios.TCSAFLUSH, self._saved)
@@ -179,7 +219,7 @@ class Terminal:
         if self.tells_size:
             raise Resized
         if not self.is_plain:
-            self._put("".join([CLEAR, *self._written]))
+            self._put("".join([self._clear, *self._written]))
 
     @contextlib.contextmanager
     def aside(self) -> Iterator[None]:
@@ -243,7 +283,7 @@ class Terminal:
     def clear(self) -> None:
         """Clears the screen. A plain terminal gets empty lines."""
         self._written.clear()
-        self.write("\n" * self.size.lines if self.is_plain else CLEAR)
+        self.write("\n" * self.size.lines if self.is_plain else self._clear)
 
     @property
     def size(self) -> os.terminal_size:
