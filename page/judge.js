@@ -2,7 +2,7 @@
 import { digitValue, faultOf, unhex, zero } from "./bytes.js";
 
 /** @typedef {import("../bindings/js/shamir.js").Engine} Engine */
-/** @typedef {{fault: import("./bytes.js").Fault | "other", fingerprint: string, place?: number}} Judged */
+/** @typedef {{fault: import("./bytes.js").Fault | "other", fingerprint: string, place?: number, bytes?: number, isRepeated?: boolean}} Judged `isRepeated` says that all bytes are the same */
 
 /**
  * Returns what is wrong with the digits of a secret, or an empty text: they have another fingerprint than the one that was noted ("other"),
@@ -22,7 +22,8 @@ export function judge(engine, { plan, digits, noted }) {
     // The engine refuses a secret that no backup can have before it is compared.
     engine.randomNeeded(plan, secret.length);
     const fingerprint = engine.fingerprint(secret);
-    return { fault: noted !== "" && noted !== fingerprint ? "other" : "", fingerprint };
+    const isRepeated = secret.every((byte) => byte === secret[0]);
+    return { fault: noted !== "" && noted !== fingerprint ? "other" : "", fingerprint, bytes: secret.length, isRepeated };
   } finally {
     zero(secret);
   }

@@ -5,7 +5,7 @@ import { changePlan } from "./change_plan.js";
 import { Declined, Stopped } from "./client.js";
 import { THROWS_LEAST } from "./dice.js";
 import { BACK, choice, element, hidden, labelled, paragraph } from "./dom.js";
-import { saidDigits } from "./digits.js";
+import { BYTES, saidDigits, saidDoubts } from "./digits.js";
 import { toldVerdict } from "./drill.js";
 import { LONG_EXPONENT } from "./estimate.js";
 import { noteAndDrill } from "./note_and_drill.js";
@@ -25,20 +25,16 @@ import { askWallet } from "./wallet.js";
 /** @typedef {Source | "papers" | "words"} Has what the owner has: a new wallet, the digits of a secret, papers, or words of BIP-39 */
 /** @typedef {{bytes: number, digits: Uint8Array | null, noted: string}} Secret */
 /** @typedef {{secret: Secret, dice: Uint8Array, passphrase: Uint8Array}} Typed */
-/** @typedef {import("./wallet.js").Asked & {source: Source, noted: string | null, exponent: number, hasThrows: boolean}} Chosen what was chosen and isn't secret. `hasThrows` says whether throws of a die were typed */
+/** @typedef {"slip39" | "bip39"} From what digits are */
+/** @typedef {{plan: Plan, words: number}} Made the plan of new papers, and how many words each has */
+/** @typedef {import("./wallet.js").Asked & {source: Source, from: From | null, noted: string | null, exponent: number, hasThrows: boolean}} Chosen what was chosen and isn't secret. `hasThrows` says whether throws of a die were typed */
 
-/**
- * How many bytes a new secret has, by the number of words on each paper.
- *
- * @type {Record<number, number>}
- */
-const BYTES = { 20: 16, 33: 32 };
 /**
  * A new backup has the exponent that the reference implementation gives it.
  *
  * @type {Chosen}
  */
-const USUAL = { source: "new", noted: null, exponent: 1, hasThrows: false, wallet: null, words: 20 };
+const USUAL = { source: "new", from: null, noted: null, exponent: 1, hasThrows: false, wallet: null, words: 20 };
 
 /**
  * Makes a backup, unless the wallet has one already.
@@ -49,23 +45,22 @@ export async function makeBackup(desk) {
   const [planned, chosen] = [new PlanChoice(), { ...USUAL }];
   /** @type {Has | null} */
   let has = null;
-  for (;;) {
+  /** @type {Made | "back" | "words"} */
+  let made = "back";
+  while (typeof made === "string") {
     setSteps(9);
-    has = await askHas(has);
+    has = made === "words" ? made : await askHas(has);
+    made = "back";
     if (has === null) return;
     if (has === "papers") {
       if ((await changePlan(desk)) === "end") return;
-      continue;
+    } else if (has !== "words" || (await agreeToNew())) {
+      chosen.source = has === "own" ? "own" : "new";
+      made = await planAndCreate(desk, planned, chosen);
     }
-    if (has === "words" && !(await agreeToNew())) continue;
-    chosen.source = has === "own" ? "own" : "new";
-    const made = await planAndCreate(desk, planned, chosen);
-    if (made === null) continue;
-    const { plan, isOwn, words } = made;
-    await writeAll(desk, plan, words, { title: say("make.forms"), unfinished: "clear.unfinished", step: 5 });
-    await noteAndEnd(desk, plan, isOwn);
-    return;
   }
+  await writeAll(desk, made.plan, made.words, { title: say("make.forms"), unfinished: "clear.unfinished", step: 5 });
+  await noteAndEnd(desk, made.plan, chosen.source === "own");
 }
 
 /**
@@ -94,27 +89,32 @@ async function agreeToNew() {
 }
 
 /**
- * Asks for the plan, the wallet and the secret until the papers are made. Returns null if the owner goes back from the plan.
+ * Asks for the plan, the wallet and the secret until the papers are made. Returns whether the owner goes back from the plan, or has only words
+ * of BIP-39.
  *
  * @param {Desk} desk
  * @param {PlanChoice} planned
  * @param {Chosen} chosen
+ * @returns {Promise<Made | "back" | "words">}
  */
 async function planAndCreate(desk, planned, chosen) {
   while (await askPlan(desk, planned, { title: say("make.plan"), step: 2 })) {
     while (await askWallet(chosen, { title: say("make.wallet"), step: 3, asksWords: true })) {
       const words = await create(desk, planned.plan, chosen);
-      if (words !== null) return { plan: planned.plan, isOwn: chosen.source === "own", words };
+      if (words === "words") return words;
+      if (words !== null) return { plan: planned.plan, words };
     }
   }
-  return null;
+  return "back";
 }
 
 /**
  * The fields for the secret. The digits of the owner's own are typed twice, and compared with the fingerprint that was noted: a backup
- * of another secret looks like a right one.
+ * of another secret looks like a right one. What is in doubt of them is asked about once, until they change.
  */
 class SecretFields {
+  #words;
+  #asked = "";
   #digits = hidden(say("secret.digits"), { show: say("show"), hide: say("hide"), hint: say("secret.digits.hint") });
   #again = hidden(say("secret.again"), { show: say("show"), hide: say("hide") });
   #noted;
@@ -124,18 +124,24 @@ class SecretFields {
    * @param {Desk} desk
    * @param {Chosen} first what is chosen at first
    */
-  constructor(desk, { source, noted, words }) {
+  constructor(desk, { source, from, noted, words }) {
     this.source = source;
+    this.from = from;
+    this.#words = words;
     this.#noted = notedFields(desk, noted);
     this.#bytes = BYTES[words];
     const drawn = () => [paragraph(say("secret.new", { words, bytes: this.#bytes }))];
-    const own = () => [this.#digits.box, this.#again.box, paragraph(say("secret.noted"), "hint"), this.#noted.box];
+    const kinds = /** @type {const} */ (["slip39", "bip39"]).map((key) => ({ key, label: say(`secret.${key}`) }));
+    const asked = () => choice(say("secret.from"), kinds, from, (key) => (this.from = key));
+    const own = () => [asked(), this.#digits.box, this.#again.box, paragraph(say("secret.noted"), "hint"), this.#noted.box];
     this.element = element("div", {}, ...(source === "own" ? own() : drawn()));
+    for (const { field } of [this.#digits, this.#again]) field.addEventListener("input", () => (this.#asked = ""));
   }
 
   /** Returns what is missing, or null. */
   async missing() {
     if (this.source !== "own") return null;
+    if (this.from === null) return say("secret.from.missing");
     const [typed, again] = [this.#digits, this.#again].map(({ field }) => typedDigits(field.value));
     if (typed === "") return say("secret.missing");
     return typed === again ? this.#noted.missing() : say("secret.differ");
@@ -147,7 +153,7 @@ class SecretFields {
   }
 
   /**
-   * Returns what is wrong with the owner's digits, or null. What was typed stays in its fields.
+   * Returns what is wrong with the owner's digits, or in doubt and not asked about yet, or null. What was typed stays in its fields.
    *
    * @param {Desk} desk
    * @param {Plan} plan
@@ -157,10 +163,20 @@ class SecretFields {
     if (digits === null) return null;
     const count = digits.length;
     try {
-      return saidDigits(await desk.ask("judge", { plan: planText(plan), digits, noted }, [digits.buffer]), count, noted) || null;
+      const judged = await desk.ask("judge", { plan: planText(plan), digits, noted }, [digits.buffer]);
+      const fault = saidDigits(judged, count, noted);
+      const doubts = saidDoubts(judged, this.#words);
+      if (fault !== "" || doubts === this.#asked) return fault || null;
+      this.#asked = doubts;
+      return `${doubts} ${say("secret.sure")}`;
     } catch (error) {
       return saidError(error);
     }
+  }
+
+  /** Whether the digits are the entropy of words of BIP-39, which isn't the secret of their wallet. */
+  get isEntropy() {
+    return this.source === "own" && this.from === "bip39";
   }
 
   /** How many bytes the secret has. */
@@ -240,12 +256,13 @@ class MoreFields {
 }
 
 /**
- * Asks for the secret and the passphrase, and makes the backup. Returns how many words each paper has, or null if the owner goes back.
- * What was chosen stays then. If the owner stops it, what is secret is typed again.
+ * Asks for the secret and the passphrase, and makes the backup. Returns how many words each paper has, or null if the owner goes back, or
+ * that the digits are the entropy of words. What was chosen stays then. If the owner stops it, what is secret is typed again.
  *
  * @param {Desk} desk
  * @param {Plan} plan
  * @param {Chosen} chosen
+ * @returns {Promise<number | "words" | null>}
  */
 async function create(desk, plan, chosen) {
   let fault = "";
@@ -256,12 +273,14 @@ async function create(desk, plan, chosen) {
     /** @type {Typed | null} */
     let typed = null;
     const keep = async () => {
+      chosen.from = secret.from;
       chosen.hasThrows ||= more.hasThrows;
       if (secret.source === "own") chosen.noted = (await secret.noted()) ?? chosen.noted;
       if (more.isExponent) chosen.exponent = more.exponent;
       return null;
     };
     const take = async () => {
+      if (secret.isEntropy) return null;
       const lacks = (await secret.missing()) ?? passphrase.missing() ?? more.missing() ?? (await secret.refusal(desk, plan));
       if (lacks === null) typed = { secret: secret.read(), dice: more.read(), passphrase: passphrase.read() };
       return lacks ?? keep();
@@ -273,7 +292,9 @@ async function create(desk, plan, chosen) {
       { key: "back", label: say("back"), kind: BACK, take: keep },
     ]);
     if (answer === "back") return null;
-    const made = await created(desk, plan, /** @type {any} */ (typed), chosen);
+    const given = /** @type {Typed | null} */ (/** @type {unknown} */ (typed));
+    if (given === null) return "words";
+    const made = await created(desk, plan, given, chosen);
     if (made.fault === "") return made.words;
     fault = made.fault;
   }

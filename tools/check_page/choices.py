@@ -98,6 +98,49 @@ def check_has(page, see):
     clear(page)
 
 
+def check_doubts(page, see):
+    """Digits that don't fit the number of words that the wallet asks for, and those of one repeated byte, are asked about. The entropy of words
+    of BIP-39 is no secret here."""
+    begin(page, "make", "own")
+    choose_wallet(page)
+    page.choose(say("secret.bip39"))
+    see("the entropy of words")
+    page.push(say("make.create"), to=say("has.words.title"))
+    page.wait_text(say("has.words.what"))
+    page.push(say("back"), to=say("home.make"))
+    choose_has(page, "own")
+    choose_wallet(page)
+    type_passphrase(page, PASSPHRASE, "passphrase.label", "passphrase.again")
+    unfit, repeated = say("secret.unfit", bytes=32, words=20, fit=16), say("secret.repeated")
+    for digits, doubts in [(SECRET * 2, unfit), (f"{SECRET}{SECRET[::-1]}", unfit), ("00" * 16, repeated), ("ab" * 32, f"{repeated} {unfit}"), (SECRET * 2, unfit)]:
+        page.choose(say("secret.slip39"))
+        for label in ("secret.digits", "secret.again"):
+            page.retype(say(label), digits)
+        page.retype(say("noted.label"), fingerprint_told(digits))
+        page.push(say("make.create"))
+        page.wait_text(f"{doubts} {say('secret.sure')}")
+        see(f"what is in doubt of a secret {digits[:4]}")
+    page.retype(say("noted.label"), FINGERPRINT)
+    page.push(say("make.create"))
+    page.wait_text(say("secret.other", fingerprint=fingerprint_told(SECRET * 2), noted=FINGERPRINT))
+    page.retype(say("noted.label"), fingerprint_told(SECRET * 2))
+    # Digits that were hidden are shown, if the owner wants that.
+    page.push(f"{say('show')}: {say('secret.digits')}")
+    if not page.is_true("(it) => it.type === 'text'", page.node("textbox", say("secret.digits"))):
+        raise Failed("the digits don't show")
+    page.push(say("make.create"), to=say("make.forms"))
+    page.wait_text(say("secret.same"))
+    page.push(say("forms.go"))
+    if len(read_paper(page).split()) != 33:
+        raise Failed("a secret of 32 bytes, which was meant, isn't in papers of 33 words")
+    clear(page, is_asked=True)
+
+
+def fingerprint_told(digits):
+    """Returns the fingerprint of a secret, by the plain reading."""
+    return plain.told(bytes.fromhex(digits), True)
+
+
 # In place of the random bytes of the worker, these are drawn: 1, 8, 15, and so on. Before they are given, a script may change them.
 DRAWN = bytes((at * 7 + 1) % 256 for at in range(32))
 FOREKNOWN = """
@@ -432,4 +475,4 @@ def check_help(page, see):
     clear(page)
 
 
-CHECKS = [check_help, check_phone, check_low, check_has, check_wallet, check_dice, check_dangers, check_notes, check_looks_of_results, check_what]
+CHECKS = [check_help, check_phone, check_low, check_has, check_doubts, check_wallet, check_dice, check_dangers, check_notes, check_looks_of_results, check_what]

@@ -11,7 +11,7 @@ const from = (path) => import(new URL(path, pathToFileURL(`${folder}/`)));
 const { load, Refusal } = await from("bindings/js/shamir.js");
 const { bytesOf, typedDigits } = await from("page/bytes.js");
 const { Declined } = await from("page/client.js");
-const { saidDigits } = await from("page/digits.js");
+const { saidDigits, saidDoubts } = await from("page/digits.js");
 const { derivationSeconds, LONG_EXPONENT } = await from("page/estimate.js");
 const { judge } = await from("page/judge.js");
 const { beside } = await from("page/kind.js");
@@ -101,6 +101,7 @@ const DECISIONS = {
   begun: ({ words, begun }) => [[isBegun(bytesOf(words.join(" "))), begun]],
   alike: ({ one: row, other, alike }) => [[resembles(bytesOf(row.join(" ")), bytesOf(other.join(" "))), alike]],
   digits: ({ typed, fault }) => [[digitsFault(typed), orNull(fault)]],
+  doubts: ({ digits, words, said }) => [[saidDoubts(judge(engine, { plan: "1of1", digits: bytesOf(digits), noted: "" }), words), joined(said)]],
   seconds: ({ measured, exponent, bytes, seconds, long }) => [[derivationSeconds(measured, exponent, bytes), seconds], [exponent >= LONG_EXPONENT, long]],
   times: ({ seconds, said }) => [[saidTime(seconds), one(said)]],
   others: ({ said, ...kind }) => [[saidOthers(kind), one(said)]],

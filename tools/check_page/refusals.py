@@ -127,6 +127,9 @@ def check_values(page, see):
     choose_has(page, "own")
     choose_wallet(page)
     page.push(say("make.create"))
+    page.wait_text(say("secret.from.missing"))
+    page.choose(say("secret.slip39"))
+    page.push(say("make.create"))
     page.wait_text(say("secret.missing"))
     check_digits(page, see)
     for passphrase, again, text in [

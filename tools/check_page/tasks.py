@@ -226,6 +226,7 @@ def prove(page, passphrase, fingerprint, is_drawn, see):
 
 def type_digits(page, digits, again, noted):
     """Types the digits of an own secret twice, and the noted fingerprint, unless it is empty. None stands for none."""
+    page.choose(say("secret.slip39"))
     page.fill(say("secret.digits"), digits)
     page.fill(say("secret.again"), again)
     if noted is None:

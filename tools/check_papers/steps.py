@@ -27,7 +27,7 @@ def check_new():
         owner.answer(say("new.words"), "3")
         owner.answer(say("new.words"), "b")
         owner.answer(say("new.wallet"), "2")
-        owner.answer(say("new.words"), "33")
+        owner.answer(say("new.words"), "20")
         owner.answer(say("new.secret"), "3")
         owner.answer(say("new.secret"), "m")
         owner.answer(say("new.exponent"), "b")
@@ -94,6 +94,7 @@ def type_own_secret(owner):
     """Types digits that are refused, digits that differ, and digits that have another fingerprint than the noted one, and then those of
     the secret. No paper is shown before."""
     digits = say("new.secret.digits")
+    owner.answer(say("secret.from.choose"), "1")
     for typed, text in [
         ("bb54g", say("secret.not_hex", place=5)),
         (f"bb54 {SECRET[4:31]}z", say("secret.not_hex", place=32)),
@@ -303,6 +304,9 @@ def check_back():
         owner.answer(wallet, "3")
         owner.answer(say("new.words"), "33")
         owner.answer(secret, "")
+        owner.answer(say("secret.from.choose"), "b")
+        owner.answer(secret, "")
+        owner.answer(say("secret.from.choose"), "1")
         owner.answer(say("new.secret.digits"), "b")
         owner.answer(secret, "b")
         owner.answer(wallet, "b")
@@ -365,6 +369,45 @@ def check_has():
         end_by_keys(owner)
 
 
+def check_doubts():
+    """Digits that don't fit the number of words that the wallet asks for, and those of one repeated byte, are asked about. The entropy of words
+    of BIP-39 is no secret here. The digits show if the owner asks for that."""
+    digits, shown, again = say("new.secret.digits"), say("new.secret.digits.shown"), say("new.secret.again")
+    sure = f"{say('secret.sure')} (y/n)"
+    unfit, repeated = say("secret.unfit", bytes=32, words=20, fit=16), say("secret.repeated")
+    with started("new", "2of3", has=DIGITS) as owner:
+        owner.settle()
+        owner.answer(say("new.secret"), "")
+        owner.answer(say("secret.from.choose"), "2")
+        owner.wait(say("has.words.choose"))
+        owner.expect(f"{say('has.words.title')} [!] {say('has.words.what')}")
+        owner.answer(say("has.words.choose"), "b")
+        owner.answer(say("has.choose"), DIGITS)
+        owner.answer(say("new.plan.choose"), "1")
+        owner.settle()
+        owner.answer(say("new.secret"), "")
+        owner.answer(say("secret.from.choose"), "1")
+        for typed, doubts in [(SECRET * 2, f"[!] {unfit}"), ("00" * 16, f"[!] {repeated}"), ("ab" * 32, f"[!] {repeated} [!] {unfit}")]:
+            owner.forget()
+            owner.answer(digits, typed)
+            owner.answer(again, typed)
+            owner.wait(sure)
+            owner.expect(doubts)
+            owner.lacks(typed, "digits show that nobody asked to see")
+            owner.answer(sure, "n")
+        owner.answer(digits, "S")
+        owner.answer(shown, SECRET * 2)
+        owner.expect(SECRET)
+        owner.answer(again, SECRET * 2)
+        owner.answer(sure, "y")
+        owner.answer(say("noted.ask"), by_digits(SECRET * 2))
+        owner.wait(say("new.passphrase"))
+        owner.expect(say("secret.same"))
+        if SECRET[:8] in owner.screen():
+            raise Failed("the digits stay on the screen of the passphrase")
+        end_by_keys(owner)
+
+
 def check_spaced():
     """A plan may be typed with spaces, on the command line too."""
     for words in (["2 of 3"], ["2", "of", "3"]):
@@ -396,5 +439,5 @@ def check_full():
             end_by_keys(owner)
 
 
-CHECKS = [check_new, check_has, check_replace, check_wrong_plan, check_repair, check_back, check_spaced, check_full]
+CHECKS = [check_new, check_has, check_doubts, check_replace, check_wrong_plan, check_repair, check_back, check_spaced, check_full]
 check = in_turn(CHECKS)

@@ -150,8 +150,11 @@ def make(owner, passphrase, plan, secret=None, known=""):
     owner.settle()
     owner.reply(say("new.secret"), "")
     if secret is not None:
+        owner.reply(say("secret.from.choose"), "1")
         owner.hidden(say("new.secret.digits"), secret)
         owner.hidden(say("new.secret.again"), secret)
+        if len(secret) != 32:
+            owner.reply(f"{say('secret.sure')} (y/n)", "y")
         owner.reply(say("noted.ask"), known)
     owner.hide(say("new.passphrase"), passphrase, has_back=secret is None)
     if passphrase:

@@ -190,6 +190,9 @@ class DecisionTests(unittest.TestCase):
     def digits(self, case):
         self.assertEqual(secret._fault_of(bytearray(case["typed"].encode())), fault(case["fault"]))
 
+    def doubts(self, case):
+        self.assertEqual(secret._doubts(bytearray.fromhex(case["digits"]), case["words"]), [said(*row) for row in case["said"]])
+
     def seconds(self, case):
         self.assertEqual(desk.derivation_seconds(case["measured"], case["exponent"], case["bytes"]), case["seconds"])
         self.assertEqual(case["exponent"] >= drill.LONG_EXPONENT, case["long"])

@@ -12,7 +12,7 @@ from shamir.papers.plan_choice import ask_plan
 from shamir.papers.proof import Made, note_and_drill
 from shamir.papers.questions import ask_new_passphrase
 from shamir.papers.screen import Back, Screen, Stopped
-from shamir.papers.secret import Choices, ask_secret, ask_wallet, make_papers
+from shamir.papers.secret import Choices, Entropy, ask_secret, ask_wallet, make_papers
 from shamir.papers.shown import write_all
 from shamir.papers.texts import say
 
@@ -24,17 +24,18 @@ HAS = ("new", "papers", "own", "words")
 def make_backup(screen: Screen, desk: Desk, given: Optional[str]) -> None:
     """Makes a backup, unless the wallet has one already. `given` is the plan that the command named, if it did. The owner may go back to the
     tasks."""
+    has = ""
     while True:
-        has = _ask_has(screen)
+        has = has or _ask_has(screen)
         try:
             if has == "papers":
                 return change_plan(screen, desk)
             if has == "words":
                 _agree_to_new(screen)
             return _make(screen, desk, given, Choices(is_own=has == "own"))
-        except Back:
+        except (Back, Entropy) as by:
             desk.clear()
-            given = None
+            given, has = None, "words" if isinstance(by, Entropy) else ""
 
 
 def _ask_has(screen: Screen) -> str:

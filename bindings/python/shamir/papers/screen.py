@@ -190,10 +190,10 @@ class Screen:
             raise Back
         return typed
 
-    def ask_hidden(self, prompt: str, has_back: bool = False) -> bytearray:
-        """Asks, and returns what is typed in one line. The screen shows nothing of it."""
+    def ask_hidden(self, prompt: str, has_back: bool = False, is_shown: bool = False) -> bytearray:
+        """Asks, and returns what is typed in one line. The screen shows nothing of it, unless the owner wants to see it."""
         while True:
-            typed = self._read(prompt, None, True)
+            typed = self._read(prompt, None, not is_shown)
             if not self.is_pasted(PASTE_SECONDS) or not self.drop_typed():
                 break
             wipe(typed)

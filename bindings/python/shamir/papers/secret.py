@@ -20,6 +20,12 @@ EXPONENT = 1
 # How many bytes a new secret has, by the number of words on each paper.
 BYTES = {20: 16, 33: 32}
 HEXADECIMAL = b"0123456789abcdefABCDEF"
+# This answer shows the digits from then on.
+SHOW = b"s"
+
+
+class Entropy(Exception):
+    """The digits are the entropy of words of BIP-39, which isn't the secret of their wallet."""
 
 
 @dataclass
@@ -44,7 +50,7 @@ def ask_secret(screen: Screen, choices: Choices) -> bytearray:
             if is_more:
                 _ask_more(screen, choices)
             else:
-                return _ask_own(screen) if choices.is_own else drawn(size)
+                return _ask_own(screen, choices.words) if choices.is_own else drawn(size)
         except Back:
             continue
 
@@ -107,13 +113,42 @@ def _ask_exponent(screen: Screen) -> int:
             return exponent
 
 
-def _ask_own(screen: Screen) -> bytearray:
+def _ask_from(screen: Screen) -> None:
+    """Asks what the digits are."""
+    screen.tell(say("secret.from"))
+    for number, key in enumerate(["slip39", "bip39"], 1):
+        screen.item(say(f"secret.{key}"), f"{number}  ")
+    screen.gap()
+    if screen.choose(say("secret.from.choose"), {"1": False, "2": True}, has_back=True):
+        raise Entropy
+
+
+def _doubts(secret: bytearray, words: int) -> List[str]:
+    """Says what is in doubt of a secret: it is no random one, or it doesn't fit the number of words that the wallet asks for."""
+    repeated = [say("secret.repeated")] if len({*secret}) == 1 else []
+    fit = BYTES[words]
+    return repeated + ([] if len(secret) == fit else [say("secret.unfit", bytes=len(secret), words=words, fit=fit)])
+
+
+def _is_meant(screen: Screen, secret: bytearray, words: int) -> bool:
+    """Whether the owner means a secret in which something is in doubt."""
+    doubts = _doubts(secret, words)
+    for doubt in doubts:
+        screen.tell(doubt, "bad")
+    return not doubts or screen.agree(say("secret.sure"))
+
+
+def _ask_own(screen: Screen, words: int) -> bytearray:
     """Returns the owner's secret, which has the fingerprint that was noted, if there is one. The owner may go back to the choice."""
+    _ask_from(screen)
     screen.tell(say("secret.digits.hint"))
     screen.tell(say("plan.short"))
     while True:
         secret = _ask_twice(screen)
         screen.tell(say("new.secret.count", digits=2 * len(secret), bytes=len(secret)))
+        if not _is_meant(screen, secret, words):
+            wipe(secret)
+            continue
         screen.tell(say("secret.noted"))
         try:
             noted = ask_noted(screen)
@@ -138,16 +173,21 @@ def _is_noted(screen: Screen, fingerprint: str, noted: str) -> bool:
 
 
 def _ask_twice(screen: Screen) -> bytearray:
-    """Asks for the hexadecimal digits of a secret until the library takes it, and it is typed twice the same."""
+    """Asks for the hexadecimal digits of a secret until the library takes it, and it is typed twice the same. They show if the owner asks
+    for that."""
+    is_shown = False
     while True:
-        typed = screen.ask_hidden(say("new.secret.digits"), has_back=True)
+        typed = screen.ask_hidden(say("new.secret.digits.shown" if is_shown else "new.secret.digits"), has_back=True, is_shown=is_shown)
+        if typed.strip().lower() == SHOW and not is_shown:
+            is_shown = True
+            continue
         fault = _fault_of(typed)
         secret = _bytes_of(typed)
         if fault:
             wipe(secret)
             screen.fault(fault)
             continue
-        again = _bytes_of(screen.ask_hidden(say("new.secret.again")))
+        again = _bytes_of(screen.ask_hidden(say("new.secret.again"), is_shown=is_shown))
         is_same = secret == again
         wipe(again)
         if is_same:
