@@ -406,13 +406,13 @@ install-page:
 	$(INSTALL) -d "$(DESTDIR)$(PAGEDIR)"
 	$(INSTALL) -m 644 shamir.html dist/heirs.html "$(DESTDIR)$(PAGEDIR)"
 
-# The command finds its modules and the library by the folders that are given here. With -m, Python would take modules from the current
-# folder, too. Until the program heeds Ctrl-C, Python would answer it with a traceback.
-RUN_PAPERS = import sys; sys.path[:] = filter(None, sys.path); from shamir.papers.__main__ import main; main()
+# The command finds its modules and the library by the folders that are given here.
+START_PAPERS = sed -n '/^. Until/,$$p' packaging/shamir-papers
 install-papers:
 	$(INSTALL) -d "$(DESTDIR)$(BINDIR)" "$(DESTDIR)$(MANDIR)/man1" "$(DESTDIR)$(BASHDIR)" "$(DESTDIR)$(ZSHDIR)" "$(DESTDIR)$(FISHDIR)" \
 		"$(DESTDIR)$(PYTHONDIR)/shamir/command" "$(DESTDIR)$(PYTHONDIR)/shamir/papers"
-	printf '#!/bin/sh\ntest -f "%s" || { echo "shamir-papers: %s is missing" >&2; exit 1; }\ntrap "" INT\nexec env "SHAMIR_LIBRARY=%s" "PYTHONPATH=%s" python3 -B -c "%s" "$$@"\n' "$(LIBDIR)/$(SONAME)" "$(LIBDIR)/$(SONAME)" "$(LIBDIR)/$(SONAME)" "$(PYTHONDIR)" "$(RUN_PAPERS)" > "$(DESTDIR)$(BINDIR)/shamir-papers"
+	printf '#!/bin/sh\ntest -f "%s" || { echo "shamir-papers: %s is missing" >&2; exit 1; }\nexport "SHAMIR_LIBRARY=%s" "PYTHONPATH=%s"\npython=python3 options=\n' "$(LIBDIR)/$(SONAME)" "$(LIBDIR)/$(SONAME)" "$(LIBDIR)/$(SONAME)" "$(PYTHONDIR)" > "$(DESTDIR)$(BINDIR)/shamir-papers"
+	$(START_PAPERS) >> "$(DESTDIR)$(BINDIR)/shamir-papers"
 	chmod 755 "$(DESTDIR)$(BINDIR)/shamir-papers"
 	$(INSTALL) -m 644 bindings/python/shamir/*.py bindings/python/shamir/py.typed "$(DESTDIR)$(PYTHONDIR)/shamir"
 	$(INSTALL) -m 644 bindings/python/shamir/command/*.py "$(DESTDIR)$(PYTHONDIR)/shamir/command"

@@ -11,11 +11,12 @@ import sys
 import tempfile
 import termios
 
-from hands import END, PATIENCE, ROOT, Failed, Interrupted, environment, habits, say
-from tasks import TASKS, check_new, end_by_keys, paper_prompt, started
+from hands import END, PATIENCE, PROGRAM, ROOT, Failed, Interrupted, Session, environment, habits, say
+from tasks import TASKS, Owner, check_new, end_by_keys, paper_prompt, started
 
 import plain
 from samples import FINGERPRINT, PASSPHRASE, THREE_GROUPS, with_words
+from tool import waited
 
 AT_ONCE = 4
 # The fields of a paper that is a quorum alone, and takes long.
@@ -284,6 +285,40 @@ def check_early():
         raise Failed(f"Ctrl-C while Python starts gives the status {done.returncode}")
 
 
+def check_echo():
+    """What is typed while the program starts doesn't show, from the first moment on if the script starts it. At the end, also an early one, the
+    terminal's modes are as before."""
+    early = "academic acid\n"
+    with tempfile.TemporaryDirectory() as folder:
+        launcher, stub, broken = (pathlib.Path(folder, name) for name in ("shamir-papers", "stub", "broken"))
+        shutil.copy(ROOT / "packaging" / "shamir-papers", folder)
+        os.mkdir(f"{folder}/bindings")
+        os.symlink(environment()["PYTHONPATH"], f"{folder}/bindings/python")
+        # Python starts late, or fails.
+        stub.write_text(f'#!/bin/sh\ntouch {folder}/begun\nsleep 1\nexec {sys.executable} "$@"\n')
+        broken.write_text(f'#!/bin/sh\nexec {sys.executable} -S -X frozen_modules=off -c "import sys; sys.modules[\'shamir\'] = None; exec(sys.argv[1])" "$3"\n')
+        for python in (stub, broken):
+            python.chmod(0o755)
+        # Where no script starts it, Python starts the program twice.
+        starts = [([f"{launcher}", "check"], lambda _: os.path.exists(f"{folder}/begun"))]
+        starts += [([*PROGRAM, "check"], lambda owner: b"PYTHONMALLOC" in pathlib.Path(f"/proc/{owner.run.pid}/environ").read_bytes())]
+        for command, has_begun in starts:
+            with Owner("check", command=command, PYTHON=str(stub)) as owner:
+                if not waited(lambda: has_begun(owner), PATIENCE):
+                    raise Failed("the program doesn't start")
+                owner.type(early)
+                owner.wait(say("safety.go"))
+                owner.lacks("academic")
+                if "academic" in owner.emulator.kept():
+                    raise Failed("what is typed while the program starts shows")
+                end_by_keys(owner)
+        for python, words, status in [(stub, ["--version"], 0), (stub, ["nothing"], 2), (broken, ["check"], 1)]:
+            with Session(command=[f"{launcher}", *words], PYTHON=str(python)) as owner:
+                owner.run.wait(PATIENCE)
+                if (owner.run.returncode, termios.tcgetattr(owner.theirs)) != (status, owner.modes):
+                    raise Failed(f"{words} ends with the status {owner.run.returncode}, or leaves the terminal in other modes")
+
+
 def check_menu():
     """Without a task, the program asks for one, by its number or its word. Help answers questions."""
     with started() as owner:
@@ -427,6 +462,7 @@ CHECKS = [
     check_closed,
     check_no_terminal,
     check_early,
+    check_echo,
     check_menu,
 ]
 

@@ -8,7 +8,7 @@ import signal
 import sys
 from typing import Callable, Dict, List, NoReturn, Optional
 
-from shamir.papers import safety
+from shamir.papers import echo, safety
 from shamir.papers.change import change_plan
 from shamir.papers.check import check_papers
 from shamir.papers.desk import Desk
@@ -143,6 +143,15 @@ def told(terminal: Terminal, text: str) -> None:
 
 
 def main() -> None:
+    echo.hide()
+    try:
+        run_words()
+    except BaseException:
+        echo.show()
+        raise
+
+
+def run_words() -> None:
     if sys.version_info < (3, 10):
         sys.exit("shamir-papers needs Python 3.10 or later")
     signal.signal(signal.SIGINT, signal.SIG_DFL)
@@ -156,11 +165,11 @@ def main() -> None:
         try:
             print(end="", flush=True)
         except OSError:
+            echo.show()
             os._exit(1)
         raise
     need_terminal(args.task)
     safety.start_overwriting()
-    signal.pthread_sigmask(signal.SIG_UNBLOCK, [signal.SIGINT])
     forbidden = safety.protect()
     kind = os.environ.get("TERM", "")
     terminal, desk = Terminal(0, 1, kind), Desk()
@@ -168,6 +177,7 @@ def main() -> None:
     is_failed = False
     try:
         terminal.open()
+        signal.pthread_sigmask(signal.SIG_UNBLOCK, [signal.SIGINT])
         screen = Screen(terminal)
         prepare(screen, terminal, kind, forbidden)
         run(screen, desk, args.task, plain_plan("".join(getattr(args, "plan", []))) or None)

@@ -16,6 +16,8 @@ import time
 from types import FrameType
 from typing import Any, Iterator, List, Optional
 
+from shamir.papers import echo
+
 ENDING = (
     signal.SIGINT, signal.SIGTERM, signal.SIGHUP, signal.SIGQUIT, signal.SIGUSR1, signal.SIGUSR2, signal.SIGALRM, signal.SIGXCPU
 )
@@ -67,7 +69,7 @@ class Terminal:
         self._source, self._target = source, target
         self.is_plain = kind in ("", "dumb", "unknown")
         self._is_console = kind.startswith("linux")
-        self._saved = termios.tcgetattr(source)
+        self._saved = echo.restored(termios.tcgetattr(source))
         # Whether the program still writes, whether its screen is shown, and whether a signal has ended it already.
         self._is_open = self._is_shown = self._is_ending = False
         # A signal writes a byte here, so that one which comes just before a wait for a key ends that wait.
