@@ -35,6 +35,7 @@ def make_backup(screen: Screen, desk: Desk, given: Optional[str]) -> None:
             return _make(screen, desk, given, Choices(is_own=has == "own"))
         except (Back, Entropy) as by:
             desk.clear()
+            screen.hold("")
             given, has = None, "words" if isinstance(by, Entropy) else ""
 
 
