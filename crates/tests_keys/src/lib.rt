@@ -1,5 +1,9 @@
-//! Tests of what keys and addresses of wallets stand on.
+//! Tests of the crates of keys and addresses, a module for each standard.
 #![tactic(auto)]
 
 #[cfg(test)]
+mod curve;
+#[cfg(test)]
 mod digests;
+#[cfg(test)]
+mod expect;

@@ -1,0 +1,5 @@
+pub mod Points
+pub mod Multiples
+pub mod Compressed
+pub mod OnCurve
+pub mod Jacobian

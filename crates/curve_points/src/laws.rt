@@ -1,0 +1,33 @@
+//! Laws of points. But for the first, each is the contract of a function that does nothing.
+
+ghost use Rattle.std.specs.Prelude.{◌≡◌, ℕ, ◌^◌, ◌<◌};
+ghost use Rattle.curve_points.specs.declared.point.Point.{Point};
+ghost use Rattle.curve_points.specs.Points.{sum_of};
+ghost use Rattle.curve_points.specs.Multiples.{multiple, public_point};
+ghost use Rattle.curve_points.specs.OnCurve.{IsCurvePoint};
+
+use crate::jacobian::multiple;
+use crate::point::{Affine, Point};
+use crate::secret::secret_multiple;
+use curve_field::Scalar;
+
+/// Both multiplications give one point.
+pub fn multiplications_agree(point: &Affine, scalar: Scalar) -> (Point, Point)
+    ensures { result.0 ≡ result.1 }
+{
+    (multiple(point, scalar), secret_multiple(point, scalar))
+}
+
+/// Sums and multiples of points of the curve are points of the curve. So each public key is one.
+pub fn points_stay_on_the_curve()
+    ensures sums { (p q : Point) → IsCurvePoint p → IsCurvePoint q → IsCurvePoint (sum_of p q) }
+    ensures multiples { (bits scalar : ℕ) (p : Point) → IsCurvePoint p
+        → IsCurvePoint (multiple bits scalar p) }
+    ensures public_keys { (key : ℕ) → IsCurvePoint (public_point key) }
+{}
+
+/// A multiple is the same along any number of bits that the scalar fits into.
+pub fn zeros_in_front_change_nothing()
+    ensures { (bits more scalar : ℕ) (p : Point) → scalar < 2 ^ bits → scalar < 2 ^ more
+        → multiple bits scalar p ≡ multiple more scalar p }
+{}
