@@ -105,7 +105,7 @@ STATIC := $(shell sed -n 's/^\([a-z0-9_]*\) staticlib.*:.*/\1/p' crates.txt)
 uses = $(filter $(CRATES),$(shell sed -n 's/^$(1)\( [a-z0-9_=]*\)*://p' crates.txt))
 # `make` proves these libraries, and then the program: all that the program uses, and crates that hold only theorems. The others
 # are tests, measurements, and libraries for other languages. What the program uses comes first, since the most waits for it.
-LIBRARIES = $(call uses,$(PROGRAM)) $(filter-out $(PROGRAM) $(STATIC) $(TOOLS) s39_fixtures s39_tests_%,$(CRATES))
+LIBRARIES = $(call uses,$(PROGRAM)) $(filter-out $(PROGRAM) $(STATIC) $(TOOLS) s39_fixtures s39_tests_% tests_%,$(CRATES))
 # Libraries are proved side by side: as many as there are processors, and as many as get 3 GB of memory each.
 JOBS = $(or $(shell PYTHONPATH=tools $(PYTHON) -B -c 'import prover; print(prover.lanes())'),1)
 SIDE_BY_SIDE = $(if $(filter -j%,$(MAKEFLAGS)),,-j$(JOBS)) --no-print-directory

@@ -7,3 +7,5 @@ mod curve;
 mod digests;
 #[cfg(test)]
 mod expect;
+#[cfg(test)]
+mod extended_keys;

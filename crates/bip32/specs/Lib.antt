@@ -1,0 +1,4 @@
+pub mod Derivation
+pub mod Paths
+pub mod Fingerprint
+pub mod Serialization

@@ -1,0 +1,9 @@
+//! Private keys of BIP-32: master keys, their children, paths, fingerprints, and the 78 bytes of an extended key.
+#![tactic(auto)]
+
+mod extended_key;
+pub mod laws;
+mod node;
+
+pub use extended_key::{ExtendedKey, HARDENED};
+pub use node::{Node, SERIALIZED_BYTES};
