@@ -28,8 +28,8 @@ pub struct Node {
 }
 
 impl Node {
-    /// Returns the node at the end of a path from a master key, or `None` if a key on the path has no such child. Only the
-    /// last key's parent needs a multiplication for its fingerprint.
+    /// Returns the node at the end of a path from a master key, or `None` if a key on the path has no such child. A path has
+    /// at most 255 indexes, as the depth is one byte. Only one fingerprint is made, the last parent's.
     pub fn at(master: &ExtendedKey, path: &[u32]) -> Option<Node>
         requires { length path.now ≤ 255 }
         ensures { result ≡ node_at (master_node master.now) path.now }

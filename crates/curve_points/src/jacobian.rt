@@ -1,7 +1,7 @@
 //! Multiples in Jacobian coordinates, which need one inverse at the end.
 
-ghost use Rattle.std.specs.Prelude.{◌≡◌, ◌≢◌, ℕ, ◌+◌, ◌*◌, ◌%◌, ◌<◌};
-ghost use Rattle.curve_field.specs.Field.{prime, ◌⊕◌, ◌⊗◌};
+ghost use Rattle.std.specs.Prelude.{◌≡◌};
+ghost use Rattle.curve_field.specs.Field.{◌⊕◌, ◌⊗◌};
 ghost use Rattle.curve_points.specs.Points.{sum_of};
 ghost use Rattle.curve_points.specs.Multiples.{multiple, next_multiple};
 ghost use Rattle.curve_points.specs.Jacobian.{IsJacobian, added_x, added_y};

@@ -1,7 +1,7 @@
 //! Points and their sums.
 
-ghost use Rattle.std.specs.Prelude.{◌≡◌, ◌≢◌, ◌+◌, ◌-◌, ◌*◌, ◌%◌};
-ghost use Rattle.curve_field.specs.Field.{prime, ◌⊗◌};
+ghost use Rattle.std.specs.Prelude.{◌≡◌};
+ghost use Rattle.curve_field.specs.Field.{◌⊗◌};
 ghost use Rattle.curve_points.specs.Points.{sum_of, quotient, on_line, generator_x, generator_y};
 
 use curve_field::FieldElement;

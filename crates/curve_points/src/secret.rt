@@ -1,6 +1,6 @@
 //! Multiples by a secret scalar. No branch and no address depends on the scalar.
 
-ghost use Rattle.std.specs.Prelude.{◌≡◌, ℕ, ◌≤◌};
+ghost use Rattle.std.specs.Prelude.{◌≡◌, ◌≤◌};
 ghost use Rattle.curve_points.specs.Points.{sum_of};
 ghost use Rattle.curve_points.specs.Multiples.{multiple, next_multiple};
 ghost use Rattle.curve_points.specs.Jacobian.{IsJacobian};
@@ -9,8 +9,9 @@ use crate::jacobian::Jacobian;
 use crate::point::{Affine, Point};
 use curve_field::{FieldElement, Scalar, sum};
 
-/// Returns this multiple of the point, and always doubles, adds and selects. No address depends on the scalar, and one
-/// branch: whether the multiple is infinity. No scalar but 0 makes it that, if the point is the generator.
+/// Returns this multiple of the point. Each of 256 steps doubles, adds by each formula, and selects. So no address depends
+/// on the scalar, and one branch: whether the multiple is infinity. A random scalar meets this once in 2^256 if the point is
+/// the generator, namely if it's 0.
 pub fn secret_multiple(point: &Affine, scalar: Scalar) -> Point
     ensures { result ≡ multiple 256 scalar (Point.Finite point.now) }
 {
