@@ -29,10 +29,10 @@ use Rattle.clap.proofs.WalkLemmas.{both}
 use Rattle.s39_clap.specs.Arguments.{AreGivenFrom, AreGivenTo, AreWordsOf, AreWordsOfAll, Given, flag, given_for, is_kind, is_sayable, is_set, is_set_true, met_at}
 use Rattle.s39_clap.specs.Arguments.{name_of, option, place_after, positional, says_true, takes_just, takes_one, value_of}
 use Rattle.s39_clap.specs.Found.{has_some}
-use Rattle.s39_clap.specs.Options.{AreOptionWords, HasNoDash, joined_word, name_word}
+use Rattle.s39_clap.specs.Options.{AreOptionWords, HasNoDash, name_word}
 use Rattle.s39_clap.proofs.Commands.{Completes, HasCommand, reading_found, reading_taken}
 use Rattle.s39_clap.proofs.Filled.{absent_at}
-use Rattle.s39_clap.proofs.Options.{leads_by, leads_then, standing}
+use Rattle.s39_clap.proofs.Options.{IsSaid, leads_by, leads_then, standing}
 use Rattle.s39_clap.proofs.Readings.{MayHave, Reads, reads_none, reads_option, reads_positional}
 
 abbrev is_id : Text → Row → Bool
@@ -83,12 +83,6 @@ own_id test (b ∷ rest) a differ found =
 
 -- ---- the words that say a name
 
-record IsSaid (name : Text) : Type 0 where
-  pub alone : long_of (name_word name) ≡ Some (name, None)
-  pub joined : (value : Text) → long_of (joined_word name value) ≡ Some (name, Some value)
-  pub alone_goes_on : bytes_eq (name_word name) (codes "--") ≡ false
-  pub joined_goes_on : (value : Text) → bytes_eq (joined_word name value) (codes "--") ≡ false
-
 lacks_byte : (c : ℕ) (text : List ℕ) → has_byte c text ≡ false → Lacks c text
 lacks_byte c [] none i lt same = omega (arith, lt)
 lacks_byte c (x ∷ rest) none zero lt same = elim (eqb_tells x c) [
@@ -119,10 +113,6 @@ record IsFlag (s : Shape) (a : Rule) (name : Text) : Type 0 where
   pub by_name : arg_by_long s.rules name ≡ Some a
   pub none : most_values a ≡ 0
   pub is_said : IsSaid name
-
--- the flag may be said behind these rows
-abbrev MayBeSaid : Shape → Rule → List Row → Type 0
-MayBeSaid s a rows = use_passes s.args_override_self a [] rows ≡ true
 
 module _ (s : Shape) (a : Rule) (name : Text) (is : IsFlag s a name) (position : ℕ) (h : Held) where
   abbrev after : Held
@@ -156,18 +146,18 @@ module _ (s : Shape) (a : Rule) (name : Text) (is : IsFlag s a name) (position :
       ∙ ap (λ (p : Held × Step). step_passes s position p.0 p.1) flag_reads
 
 -- and then a flag
-reads_flag : {F : Type 0} (s : Shape) (position : ℕ) (before : List Text) (rows : List Row) → Reads s position before rows F → (a : Rule) (name : Text)
-    → IsFlag s a name → Reads s position (before ++ name_word name ∷ []) (used a [] rows) (F × MayBeSaid s a rows)
-reads_flag {F} s position before rows reads a name is =
-    let passes : F × MayBeSaid s a rows → react_passes s.rules s.args_override_self a [] reads.end ≡ true =
-    λ fit. and_from _ _ (reads.settles fit.0) (ap (λ (r : List Row). use_passes s.args_override_self a [] r) reads.rows_are ∙ fit.1) in record {
+reads_flag : (s : Shape) (position : ℕ) (before : List Text) (rows : List Row) → Reads s position before rows → (a : Rule) (name : Text)
+    → IsFlag s a name → use_passes s.args_override_self a [] rows ≡ true → Reads s position (before ++ name_word name ∷ []) (used a [] rows)
+reads_flag s position before rows reads a name is may =
+    let passes : react_passes s.rules s.args_override_self a [] reads.end ≡ true =
+    and_from _ _ reads.settles (ap (λ (r : List Row). use_passes s.args_override_self a [] r) reads.rows_are ∙ may) in record {
       end = reacted s.rules a [] reads.end;
       leads = leads_then s before (name_word name ∷ []) (walk_from nothing_held) (standing position reads.end)
           (standing position (reacted s.rules a [] reads.end)) reads.leads
-          (leads_by {F = F × MayBeSaid s a rows} s (name_word name) (standing position reads.end) (standing position (reacted s.rules a [] reads.end))
-          (flag_is s a name is position reads.end) (λ fit. flag_passes s a name is position reads.end (passes fit))) (λ fit. (fit.0, fit));
+          (leads_by s (name_word name) (standing position reads.end) (standing position (reacted s.rules a [] reads.end))
+          (flag_is s a name is position reads.end) (flag_passes s a name is position reads.end passes));
       rows_are = ap (used a []) reads.rows_are;
-      settles = λ fit. refl;
+      settles = refl;
     }
 
 -- ---- one use
@@ -225,20 +215,7 @@ module _ (s : Shape) (a : Rule) (name text : Text) (named : a.id ≡ name) (own 
   set_passes_once accepted =
       ap (λ (b : Bool). (not b || s.args_override_self) && values_pass a (text ∷ [])) absent ∙ and_from _ _ accepted refl
 
--- these rows are held after the words, none of which is refused
-abbrev AreHeld : Shape → ℕ → List Text → List Row → Type 0
-AreHeld s place words rows = Reads s place words rows (Unit {0})
-
-held_as : {F : Type 0} (s : Shape) (place : ℕ) (words : List Text) (rows now : List Row) → Reads s place words rows F → F → rows ≡ now
-    → AreHeld s place words now
-held_as s place words rows now reads fit same = record {
-  end = reads.end;
-  leads = record { walks = reads.leads.walks; passes = λ _. reads.leads.passes fit };
-  rows_are = reads.rows_are ∙ same;
-  settles = λ _. reads.settles fit;
-}
-
-module _ (s : Shape) (place : ℕ) (before : List Text) (rows : List Row) (held : AreHeld s place before rows) (differ : ids_differ s.rules ≡ true) (a : Rule)
+module _ (s : Shape) (place : ℕ) (before : List Text) (rows : List Row) (held : Reads s place before rows) (differ : ids_differ s.rules ≡ true) (a : Rule)
     (name : Text) (named : a.id ≡ name) (none : has_row name rows ≡ false) where
   module _ (value : Text) (one : takes_one a ≡ true) (accepted : value_passes a value ≡ true) (own : arg_by_id s.rules a.id ≡ Some a) where
     sets : action_of a ≡ Set
@@ -258,24 +235,20 @@ module _ (s : Shape) (place : ℕ) (before : List Text) (rows : List Row) (held 
         ∙ set_passes_once s a name value named own rows none accepted
 
   option_held : (value : Text) → is_kind a (option name value) ≡ true → value_passes a value ≡ true → arg_by_long s.rules name ≡ Some a
-      → (words : List Text) → AreOptionWords name value words → AreHeld s place (before ++ words) (rows ++ row_at s name value ∷ [])
+      → (words : List Text) → AreOptionWords name value words → Reads s place (before ++ words) (rows ++ row_at s name value ∷ [])
   option_held value kind accepted met words are =
       let parts = both (is_sayable name) (takes_one a) kind in
       let own = own_id (λ x. not (is_some x.index) && has_long x name) s.rules a differ met in
-      let say = said name parts.0 in
-      held_as s place (before ++ words) (used a (value ∷ []) rows) _
+      subst (Reads s place (before ++ words)) (value_used value parts.1 accepted own)
       (reads_option s place before rows held a name value words (record {
         by_name = met;
         by_id = own;
         one = (just value parts.1 accepted own).1;
-        alone = say.alone;
-        joined = say.joined;
-        alone_goes_on = say.alone_goes_on;
-        joined_goes_on = say.joined_goes_on;
-      }) are) (tt, may_have value parts.1 accepted own) (value_used value parts.1 accepted own)
+        is_said = said name parts.0;
+      }) are (may_have value parts.1 accepted own))
 
   flag_held : is_kind a (flag name) ≡ true → value_passes a (codes "true") ≡ true → arg_by_long s.rules name ≡ Some a
-      → AreHeld s place (before ++ name_word name ∷ []) (rows ++ row_at s name (codes "true") ∷ [])
+      → Reads s place (before ++ name_word name ∷ []) (rows ++ row_at s name (codes "true") ∷ [])
   flag_held kind accepted met =
       let parts = both (is_sayable name) (is_set_true (action_of a) && (takes_just 0 a && says_true a.missing)) kind in
       let more = both (is_set_true (action_of a)) (takes_just 0 a && says_true a.missing) parts.1 in
@@ -284,35 +257,33 @@ module _ (s : Shape) (place : ℕ) (before : List Text) (rows : List Row) (held 
       let missing = true_is a.missing last.1 in
       let just = takes_just_is 0 a last.0 in
       let own = own_id (λ x. not (is_some x.index) && has_long x name) s.rules a differ met in
-      held_as s place (before ++ name_word name ∷ []) (used a [] rows) _
-      (reads_flag s place before rows held a name (record { by_name = met; none = just.1; is_said = said name parts.0 })) (
-        tt,
-        ap (λ (n : ℕ). nat_le n 0 && (nat_le 0 (most_values a) && action_passes (action_of a) s.args_override_self a a.missing rows)) just.0
-            ∙ ap (λ (n : ℕ). nat_le 0 n && action_passes (action_of a) s.args_override_self a a.missing rows) just.1
-            ∙ ap (λ (x : ArgAction). action_passes x s.args_override_self a a.missing rows) sets
-            ∙ ap (λ (v : List Text). set_passes s.args_override_self a v rows) missing
-            ∙ set_passes_once s a name (codes "true") named own rows none accepted,
-      )
+      subst (Reads s place (before ++ name_word name ∷ []))
       (ap (λ (x : ArgAction). used_as x a.id (reading_by a) a.missing rows) sets
       ∙ ap (λ (v : List Text). with_values a.id (reading_by a) CommandLine v (without a.id rows)) missing
       ∙ set_once s a name (codes "true") named own rows none)
+      (reads_flag s place before rows held a name (record { by_name = met; none = just.1; is_said = said name parts.0 })
+      (ap (λ (n : ℕ). nat_le n 0 && (nat_le 0 (most_values a) && action_passes (action_of a) s.args_override_self a a.missing rows)) just.0
+      ∙ ap (λ (n : ℕ). nat_le 0 n && action_passes (action_of a) s.args_override_self a a.missing rows) just.1
+      ∙ ap (λ (x : ArgAction). action_passes x s.args_override_self a a.missing rows) sets
+      ∙ ap (λ (v : List Text). set_passes s.args_override_self a v rows) missing
+      ∙ set_passes_once s a name (codes "true") named own rows none accepted))
 
   positional_held : (value : Text) → is_kind a (positional name value) ≡ true → value_passes a value ≡ true → arg_by_index s.rules place ≡ Some a
-      → HasNoDash value → AreHeld s (min (place + 1) usize_max) (before ++ value ∷ []) (rows ++ row_at s name value ∷ [])
+      → HasNoDash value → Reads s (min (place + 1) usize_max) (before ++ value ∷ []) (rows ++ row_at s name value ∷ [])
   positional_held value kind accepted met no_dash =
       let parts = both (takes_one a) (not a.trailing_var_arg) kind in
       let own = own_id (λ x. option_map_or (λ k. k == place) x.index false) s.rules a differ met in
       let only = just value parts.0 accepted own in
       let several : takes_several a ≡ false =
       ap (λ (n : ℕ). not (n == most_values a) || nat_lt 1 n) only.0 ∙ ap (λ (n : ℕ). not (1 == n) || false) only.1 in
-      held_as s (min (place + 1) usize_max) (before ++ value ∷ []) (used a (value ∷ []) rows) _
+      subst (Reads s (min (place + 1) usize_max) (before ++ value ∷ [])) (value_used value parts.0 accepted own)
       (reads_positional s place before rows held a value (record {
         at = met;
         by_id = own;
         one = ap (λ (b : Bool). b || is_append (action_of a)) several ∙ ap is_append (sets value parts.0 accepted own);
         several = several;
         goes_on = is_no a.trailing_var_arg parts.1;
-      }) no_dash) (tt, may_have value parts.0 accepted own) (value_used value parts.0 accepted own)
+      }) no_dash (may_have value parts.0 accepted own))
 
 -- ---- all that are given
 
@@ -362,37 +333,37 @@ rest_new s rows g rest new once id has some =
 abbrev rows_of_all : Shape → List Given → List Row
 rows_of_all s = map (λ g. row_at s (name_of g) (value_of g))
 
-one_held : (s : Shape) (place : ℕ) (before : List Text) (rows : List Row) → AreHeld s place before rows → ids_differ s.rules ≡ true → (g : Given)
+one_held : (s : Shape) (place : ℕ) (before : List Text) (rows : List Row) → Reads s place before rows → ids_differ s.rules ≡ true → (g : Given)
     (a : Rule) → met_at s.rules place g ≡ Some a → a.id ≡ name_of g → is_kind a g ≡ true → Accepts a.ignore_case (parser_of_value a.parser) (value_of g)
     → has_row (name_of g) rows ≡ false → (words : List Text) → AreWordsOf g words
-    → AreHeld s (place_after place g) (before ++ words) (rows ++ row_at s (name_of g) (value_of g) ∷ [])
+    → Reads s (place_after place g) (before ++ words) (rows ++ row_at s (name_of g) (value_of g) ∷ [])
 one_held s place before rows held differ (option name value) a met named kind accepted none words are =
     option_held s place before rows held differ a name named none value kind (Accepts-accepts a.ignore_case (parser_of_value a.parser) value accepted) met
     words are
 one_held s place before rows held differ (flag name) a met named kind accepted none words are =
-    subst (λ (w : List Text). AreHeld s place (before ++ w) (rows ++ row_at s name (codes "true") ∷ [])) (sym are)
+    subst (λ (w : List Text). Reads s place (before ++ w) (rows ++ row_at s name (codes "true") ∷ [])) (sym are)
     (flag_held s place before rows held differ a name named none kind
     (Accepts-accepts a.ignore_case (parser_of_value a.parser) (codes "true") accepted) met)
 one_held s place before rows held differ (positional name value) a met named kind accepted none words are =
-    subst (λ (w : List Text). AreHeld s (min (place + 1) usize_max) (before ++ w) (rows ++ row_at s name value ∷ [])) (sym are.1)
+    subst (λ (w : List Text). Reads s (min (place + 1) usize_max) (before ++ w) (rows ++ row_at s name value ∷ [])) (sym are.1)
     (positional_held s place before rows held differ a name named none value kind
     (Accepts-accepts a.ignore_case (parser_of_value a.parser) value accepted) met are.0)
 
-all_held : (s : Shape) (place : ℕ) (before : List Text) (rows : List Row) → AreHeld s place before rows → ids_differ s.rules ≡ true → (given : List Given)
+all_held : (s : Shape) (place : ℕ) (before : List Text) (rows : List Row) → Reads s place before rows → ids_differ s.rules ≡ true → (given : List Given)
     → AreGivenFrom s.rules place given → AreNew rows given → (words : List Text) → AreWordsOfAll given words
-    → (end : ℕ) × AreHeld s end (before ++ words) (rows ++ rows_of_all s given)
+    → (end : ℕ) × Reads s end (before ++ words) (rows ++ rows_of_all s given)
 all_held s place before rows held differ [] are new words none = (
   place,
-  subst (λ (r : List Row). AreHeld s place (before ++ words) r) (sym (append-nil rows))
-      (subst (λ (w : List Text). AreHeld s place w rows) (sym (ap (λ (w : List Text). before ++ w) none ∙ append-nil before)) held),
+  subst (λ (r : List Row). Reads s place (before ++ words) r) (sym (append-nil rows))
+      (subst (λ (w : List Text). Reads s place w rows) (sym (ap (λ (w : List Text). before ++ w) none ∙ append-nil before)) held),
 )
 all_held s place before rows held differ (g ∷ rest) (a, met, named, kind, accepted, once, later) new words (first, others, split, here, there) =
     let r = row_at s (name_of g) (value_of g) in
     let one = one_held s place before rows held differ g a met named kind accepted (head_new rows g rest new) first here in
     let all = all_held s (place_after place g) (before ++ first) (rows ++ r ∷ []) one differ rest later (rest_new s rows g rest new once) others there in (
       all.0,
-      subst (λ (l : List Row). AreHeld s all.0 (before ++ words) l) (append_assoc rows (r ∷ []) (rows_of_all s rest))
-          (subst (λ (w : List Text). AreHeld s all.0 w ((rows ++ r ∷ []) ++ rows_of_all s rest))
+      subst (λ (l : List Row). Reads s all.0 (before ++ words) l) (append_assoc rows (r ∷ []) (rows_of_all s rest))
+          (subst (λ (w : List Text). Reads s all.0 w ((rows ++ r ∷ []) ++ rows_of_all s rest))
           (append_assoc before first others ∙ ap (λ (w : List Text). before ++ w) (sym split)) all.1),
     )
 
@@ -602,7 +573,7 @@ module _ (a : App) (plain : IsPlainApp a) (name : Text) (s : Shape) (named : com
   words_are_read program given are level words =
       let all = all_held s 1 [] [] (reads_none s) (both (ids_differ s.rules) _ plain_command).0 given are.each (λ id has some. true≢false (sym has)) level words in
       record {
-        taken = reading_taken a name s has_command level program all.0 (rows_of_all s given) all.1 tt (completes s given plain_command are);
+        taken = reading_taken a name s has_command level program all.0 (rows_of_all s given) all.1 (completes s given plain_command are);
         rows = fold with_default (rows_of_all s given) s.rules;
         met = reading_found a name s has_command level program all.0 (rows_of_all s given) all.1
             ∙ ap (λ (n : Text). Some (n, fold with_default (rows_of_all s given) s.rules)) name_is;

@@ -15,20 +15,20 @@ use Rattle.s39_clap.proofs.Readings.{Reads}
 
 -- ---- all words of a level
 
-module _ {F : Type 0} (s : Shape) (words : List Text) (old new : Walk) (leads : Leads s words old new F) where
+module _ (s : Shape) (words : List Text) (old new : Walk) (leads : Leads s words old new) where
   walks_all : fold (walked s.rules []) old words ≡ new
   walks_all = ap (fold (walked s.rules []) old) (sym (append-nil words)) ∙ leads.walks []
 
-  passes_all : F → walk_passes s [] old words ≡ true
+  passes_all : walk_passes s [] old words ≡ true
   unfolding walk_passes
-  passes_all fit = ap (walk_passes s [] old) (sym (append-nil words)) ∙ leads.passes fit []
+  passes_all = ap (walk_passes s [] old) (sym (append-nil words)) ∙ leads.passes []
 
 -- the level with these rows passes
 pub record Completes (s : Shape) (rows : List Row) : Type 0 where
   pub defaults : list_all default_passes s.rules ≡ true
   pub valid : is_valid s (fold with_default rows s.rules) false ≡ true
 
-module _ {F : Type 0} (s : Shape) (position : ℕ) (words : List Text) (rows : List Row) (reads : Reads s position words rows F) where
+module _ (s : Shape) (position : ℕ) (words : List Text) (rows : List Row) (reads : Reads s position words rows) where
   ends_there : fold (walked s.rules []) (walk_from nothing_held) words ≡ standing position reads.end
   ends_there = walks_all s words (walk_from nothing_held) (standing position reads.end) reads.leads
 
@@ -36,12 +36,12 @@ module _ {F : Type 0} (s : Shape) (position : ℕ) (words : List Text) (rows : L
   pub rows_found : rows_after s.rules [] words ≡ fold with_default rows s.rules
   rows_found = ap (λ (w : Walk). finished s.rules w.held) ends_there ∙ ap (λ (r : List Row). fold with_default r s.rules) reads.rows_are
 
-  pub level_taken : F → Completes s rows → level_passes s [] nothing_held words false ≡ true
-  level_taken fit completes =
+  pub level_taken : Completes s rows → level_passes s [] nothing_held words false ≡ true
+  level_taken completes =
       ap (λ (w : Walk). walk_passes s [] (walk_from nothing_held) words && (settle_passes s.rules s.args_override_self w.held
       && (list_all default_passes s.rules && is_valid s (finished s.rules w.held) false))) ends_there
-      ∙ and_from _ _ (passes_all s words (walk_from nothing_held) (standing position reads.end) reads.leads fit)
-      (and_from _ _ (reads.settles fit) (and_from _ _ completes.defaults
+      ∙ and_from _ _ (passes_all s words (walk_from nothing_held) (standing position reads.end) reads.leads)
+      (and_from _ _ reads.settles (and_from _ _ completes.defaults
       (ap (λ (r : List Row). is_valid s (fold with_default r s.rules) false) reads.rows_are ∙ completes.valid)))
 
 -- ---- the level above
@@ -116,12 +116,12 @@ module _ (a : App) (name : Text) (s : Shape) (has : HasCommand a name s) (words 
       ∙ ap (λ (w : Walk). entered (built a) w.stopped) walk_is ∙ ap (option_map (λ (x : Shape). rows_at x words)) has.found
 
   -- words of the subcommand that are read, so that nothing is missing, are taken
-  pub reading_taken : {F : Type 0} (program : Text) (position : ℕ) (rows : List Row) → Reads s position words rows F → F → Completes s rows
+  pub reading_taken : (program : Text) (position : ℕ) (rows : List Row) → Reads s position words rows → Completes s rows
       → takes a (program ∷ name ∷ words) ≡ true
-  reading_taken program position rows reads fit completes = command_taken program (level_taken s position words rows reads fit completes)
+  reading_taken program position rows reads completes = command_taken program (level_taken s position words rows reads completes)
 
   -- and what is found is what is held then, with the defaults
-  pub reading_found : {F : Type 0} (program : Text) (position : ℕ) (rows : List Row) → Reads s position words rows F
+  pub reading_found : (program : Text) (position : ℕ) (rows : List Row) → Reads s position words rows
       → subcommand_of a (program ∷ name ∷ words) ≡ Some (s.name, fold with_default rows s.rules)
   reading_found program position rows reads =
       command_found program ∙ ap (λ (r : List Row). Some (s.name, r)) (rows_found s position words rows reads)

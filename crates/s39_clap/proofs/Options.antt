@@ -25,38 +25,41 @@ expecting id position held = record { held = held; waiting = option id; position
 abbrev went_on : Held → Waiting → Held × Step
 went_on h waiting = (h, next waiting)
 
--- Whatever follows, these words lead from one place to another; and where this is so, none of them is refused.
-pub record Leads (s : Shape) (words : List Text) (old new : Walk) (Fit : Type 0) : Type 0 where
+-- Whatever follows, these words lead from one place to another, and none of them is refused.
+pub record Leads (s : Shape) (words : List Text) (old new : Walk) : Type 0 where
   pub walks : (rest : List Text) → fold (walked s.rules []) old (words ++ rest) ≡ fold (walked s.rules []) new rest
-  pub passes : Fit → (rest : List Text) → walk_passes s [] old (words ++ rest) ≡ walk_passes s [] new rest
+  pub passes : (rest : List Text) → walk_passes s [] old (words ++ rest) ≡ walk_passes s [] new rest
 
-pub leads_then : {F G H : Type 0} (s : Shape) (first second : List Text) (a b c : Walk) → Leads s first a b F → Leads s second b c G → (H → F × G)
-    → Leads s (first ++ second) a c H
-leads_then s first second a b c one two both = record {
+pub leads_then : (s : Shape) (first second : List Text) (a b c : Walk) → Leads s first a b → Leads s second b c → Leads s (first ++ second) a c
+leads_then s first second a b c one two = record {
   walks = λ rest. ap (fold (walked s.rules []) a) (append_assoc first second rest) ∙ one.walks (second ++ rest) ∙ two.walks rest;
-  passes = λ fit rest. ap (walk_passes s [] a) (append_assoc first second rest) ∙ one.passes (both fit).0 (second ++ rest) ∙ two.passes (both fit).1 rest;
+  passes = λ rest. ap (walk_passes s [] a) (append_assoc first second rest) ∙ one.passes (second ++ rest) ∙ two.passes rest;
 }
 
 -- one word
-pub leads_by : {F : Type 0} (s : Shape) (word : Text) (old new : Walk) → walked s.rules [] old word ≡ new → (F → turn_passes s [] old word ≡ true)
-    → Leads s (word ∷ []) old new F
+pub leads_by : (s : Shape) (word : Text) (old new : Walk) → walked s.rules [] old word ≡ new → turn_passes s [] old word ≡ true
+    → Leads s (word ∷ []) old new
 unfolding walk_passes
 leads_by s word old new is passes = record {
   walks = λ rest. ap (λ (w : Walk). fold (walked s.rules []) w rest) is;
-  passes = λ fit rest.
-      ap (λ (b : Bool). b && walk_passes s [] (walked s.rules [] old word) rest) (passes fit)
+  passes = λ rest.
+      ap (λ (b : Bool). b && walk_passes s [] (walked s.rules [] old word) rest) passes
       ∙ ap (λ (w : Walk). walk_passes s [] w rest) is;
 }
+
+-- `--name` says the name, and `--name=value` the name and the value
+pub record IsSaid (name : Text) : Type 0 where
+  pub alone : long_of (name_word name) ≡ Some (name, None)
+  pub joined : (value : Text) → long_of (joined_word name value) ≡ Some (name, Some value)
+  pub alone_goes_on : bytes_eq (name_word name) (codes "--") ≡ false
+  pub joined_goes_on : (value : Text) → bytes_eq (joined_word name value) (codes "--") ≡ false
 
 -- the name is that of one of the level's options, of which each use takes one value
 pub record IsOption (s : Shape) (a : Rule) (name : Text) : Type 0 where
   pub by_name : arg_by_long s.rules name ≡ Some a
   pub by_id : arg_by_id s.rules a.id ≡ Some a
   pub one : most_values a ≡ 1
-  pub alone : long_of (name_word name) ≡ Some (name, None)
-  pub joined : (value : Text) → long_of (joined_word name value) ≡ Some (name, Some value)
-  pub alone_goes_on : bytes_eq (name_word name) (codes "--") ≡ false
-  pub joined_goes_on : (value : Text) → bytes_eq (joined_word name value) (codes "--") ≡ false
+  pub is_said : IsSaid name
 
 -- the value may be given, in this place
 abbrev pub MayBeGiven : Shape → Rule → Text → Held → Type 0
@@ -66,7 +69,7 @@ MayBeGiven s a value h = (use_passes s.args_override_self a (value ∷ []) (sett
 -- what is held after the option, from what was
 pub record Enters (s : Shape) (a : Rule) (value : Text) (old new : Held) : Type 0 where
   pub rows_are : (settled s.rules new).rows ≡ used a (value ∷ []) (settled s.rules old).rows
-  pub settles : MayBeGiven s a value old → settle_passes s.rules s.args_override_self new ≡ true
+  pub settles : settle_passes s.rules s.args_override_self new ≡ true
 
 -- ---- a word that doesn't begin with a dash
 
@@ -115,18 +118,18 @@ module _ (s : Shape) (a : Rule) (name : Text) (is : IsOption s a name) (position
     unfolding walked
     joined_is =
         ap (λ (p : Held × Step). after_step s.rules (joined_word name value) (standing position h) p.0 p.1)
-        (word_reads (joined_word name value) (Some value) (is.joined_goes_on value) (is.joined value))
+        (word_reads (joined_word name value) (Some value) (is.is_said.joined_goes_on value) (is.is_said.joined value))
 
     joined_passes : MayBeGiven s a value h → turn_passes s [] (standing position h) (joined_word name value) ≡ true
     joined_passes fits =
         ap (λ (b : Bool). b && step_passes s position (word_met s.rules [] false idle position (joined_word name value) h).0
         (word_met s.rules [] false idle position (joined_word name value) h).1)
-        (word_is_taken (joined_word name value) (Some value) (is.joined_goes_on value) (is.joined value) (and_from _ _ fits.1 fits.0))
+        (word_is_taken (joined_word name value) (Some value) (is.is_said.joined_goes_on value) (is.is_said.joined value) (and_from _ _ fits.1 fits.0))
         ∙ ap (λ (p : Held × Step). step_passes s position p.0 p.1)
-        (word_reads (joined_word name value) (Some value) (is.joined_goes_on value) (is.joined value))
+        (word_reads (joined_word name value) (Some value) (is.is_said.joined_goes_on value) (is.is_said.joined value))
 
-    by_joined : Leads s (joined_word name value ∷ []) (standing position h) (standing position after_joined) (MayBeGiven s a value h)
-    by_joined = leads_by s (joined_word name value) (standing position h) (standing position after_joined) joined_is joined_passes
+    by_joined : MayBeGiven s a value h → Leads s (joined_word name value ∷ []) (standing position h) (standing position after_joined)
+    by_joined fits = leads_by s (joined_word name value) (standing position h) (standing position after_joined) joined_is (joined_passes fits)
 
     -- ---- in two words
 
@@ -137,14 +140,14 @@ module _ (s : Shape) (a : Rule) (name : Text) (is : IsOption s a name) (position
     unfolding walked
     name_is =
         ap (λ (p : Held × Step). after_step s.rules (name_word name) (standing position h) p.0 p.1)
-        (word_reads (name_word name) None is.alone_goes_on is.alone)
+        (word_reads (name_word name) None is.is_said.alone_goes_on is.is_said.alone)
 
     name_passes : MayBeGiven s a value h → turn_passes s [] (standing position h) (name_word name) ≡ true
     name_passes fits =
         ap (λ (b : Bool). b && step_passes s position (word_met s.rules [] false idle position (name_word name) h).0
         (word_met s.rules [] false idle position (name_word name) h).1)
-        (word_is_taken (name_word name) None is.alone_goes_on is.alone fits.1)
-        ∙ ap (λ (p : Held × Step). step_passes s position p.0 p.1) (word_reads (name_word name) None is.alone_goes_on is.alone)
+        (word_is_taken (name_word name) None is.is_said.alone_goes_on is.is_said.alone fits.1)
+        ∙ ap (λ (p : Held × Step). step_passes s position p.0 p.1) (word_reads (name_word name) None is.is_said.alone_goes_on is.is_said.alone)
 
     abbrev after_value : Held
     after_value = record (settled s.rules h) { pending = Some (a.id, value ∷ []) }
@@ -170,33 +173,27 @@ module _ (s : Shape) (a : Rule) (name : Text) (is : IsOption s a name) (position
         ∙ ap (λ (l : Option (Text × Option Text)). flag_word_passes s.rules s.args_override_self l value after_name && true) plain.no_long
         ∙ ap (λ (o : Option Text). option_map_or (λ flags. bundle_passes s.rules s.args_override_self flags after_name) o true && true) plain.no_short
 
-    by_two : IsPlain value → Leads s (name_word name ∷ value ∷ []) (standing position h) (standing position after_value) (MayBeGiven s a value h)
-    by_two plain =
+    by_two : IsPlain value → MayBeGiven s a value h → Leads s (name_word name ∷ value ∷ []) (standing position h) (standing position after_value)
+    by_two plain fits =
         leads_then s (name_word name ∷ []) (value ∷ []) (standing position h) (expecting a.id position after_name) (standing position after_value)
-        (leads_by s (name_word name) (standing position h) (expecting a.id position after_name) name_is name_passes)
-        (leads_by {F = MayBeGiven s a value h} s value (expecting a.id position after_name) (standing position after_value) (value_is plain)
-        (λ fits. value_passes plain))
-        (λ fits. (fits, fits))
-
-    two_enter : Enters s a value h after_value
-    two_enter = record {
-      rows_are = ap (λ (r : Option Rule). used_by_id r (value ∷ []) (settled s.rules h).rows) is.by_id;
-      settles = λ fits.
-          ap (λ (r : Option Rule). option_map_or (λ (b : Rule). use_passes s.args_override_self b (value ∷ []) (settled s.rules h).rows) r true) is.by_id
-          ∙ fits.0;
-    }
+        (leads_by s (name_word name) (standing position h) (expecting a.id position after_name) name_is (name_passes fits))
+        (leads_by s value (expecting a.id position after_name) (standing position after_value) (value_is plain) (value_passes plain))
 
     -- the words of the option, in either form, in front of any others: its value is held then
-    pub option_taken : (words : List Text) → AreOptionWords name value words
-        → (after : Held) × Leads s words (standing position h) (standing position after) (MayBeGiven s a value h) × Enters s a value h after
-    option_taken words (inl joined) = (
+    pub option_taken : MayBeGiven s a value h → (words : List Text) → AreOptionWords name value words
+        → (after : Held) × Leads s words (standing position h) (standing position after) × Enters s a value h after
+    option_taken fits words (inl joined) = (
       after_joined,
-      subst (λ (w : List Text). Leads s w (standing position h) (standing position after_joined) (MayBeGiven s a value h)) (sym joined) by_joined,
-      record { rows_are = refl; settles = λ fits. refl },
+      subst (λ (w : List Text). Leads s w (standing position h) (standing position after_joined)) (sym joined) (by_joined fits),
+      record { rows_are = refl; settles = refl },
     )
-    option_taken words (inr two) = (
+    option_taken fits words (inr two) = (
       after_value,
-      subst (λ (w : List Text). Leads s w (standing position h) (standing position after_value) (MayBeGiven s a value h)) (sym two.1)
-          (by_two (plain_word value two.0)),
-      two_enter,
+      subst (λ (w : List Text). Leads s w (standing position h) (standing position after_value)) (sym two.1) (by_two (plain_word value two.0) fits),
+      record {
+        rows_are = ap (λ (r : Option Rule). used_by_id r (value ∷ []) (settled s.rules h).rows) is.by_id;
+        settles =
+            ap (λ (r : Option Rule). option_map_or (λ (b : Rule). use_passes s.args_override_self b (value ∷ []) (settled s.rules h).rows) r true) is.by_id
+            ∙ fits.0;
+      },
     )

@@ -10,40 +10,39 @@ use Rattle.clap.specs.Takes.{bundle_passes, flag_word_passes, settle_passes, ste
 use Rattle.s39_clap.specs.Options.{AreOptionWords, HasNoDash}
 use Rattle.s39_clap.proofs.Options.{MayBeGiven, IsOption, IsPlain, Leads, leads_by, leads_then, option_taken, plain_word, standing}
 
--- These words of the level are read, and then these rows are held; and where this is so, none of the words is refused.
-pub record Reads (s : Shape) (position : ℕ) (words : List Text) (rows : List Row) (Fit : Type 0) : Type 0 where
+-- These words of the level are read, none of them is refused, and then these rows are held.
+pub record Reads (s : Shape) (position : ℕ) (words : List Text) (rows : List Row) : Type 0 where
   pub end : Held
-  pub leads : Leads s words (walk_from nothing_held) (standing position end) Fit
+  pub leads : Leads s words (walk_from nothing_held) (standing position end)
   pub rows_are : (settled s.rules end).rows ≡ rows
-  pub settles : Fit → settle_passes s.rules s.args_override_self end ≡ true
+  pub settles : settle_passes s.rules s.args_override_self end ≡ true
 
-pub reads_none : (s : Shape) → Reads s 1 [] [] (Unit {0})
+pub reads_none : (s : Shape) → Reads s 1 [] []
 reads_none s = record {
   end = nothing_held;
-  leads = record { walks = λ rest. refl; passes = λ fit rest. refl };
+  leads = record { walks = λ rest. refl; passes = λ rest. refl };
   rows_are = refl;
-  settles = λ fit. refl;
+  settles = refl;
 }
 
 -- the argument may have this value behind these rows
 abbrev pub MayHave : Shape → Rule → Text → List Row → Type 0
 MayHave s a text rows = use_passes s.args_override_self a (text ∷ []) rows ≡ true
 
-module _ {F : Type 0} (s : Shape) (position : ℕ) (before : List Text) (rows : List Row) (reads : Reads s position before rows F) where
-  -- and then those of an option
-  pub reads_option : (a : Rule) (name text : Text) (words : List Text) → IsOption s a name → AreOptionWords name text words
-      → Reads s position (before ++ words) (used a (text ∷ []) rows) (F × MayHave s a text rows)
-  reads_option a name text words is are =
-      let taken = option_taken s a name is position reads.end text words are in
-      let fits : F × MayHave s a text rows → MayBeGiven s a text reads.end =
-      λ fit. (ap (λ (r : List Row). use_passes s.args_override_self a (text ∷ []) r) reads.rows_are ∙ fit.1, reads.settles fit.0) in
-      record {
-        end = taken.0;
-        leads = leads_then s before words (walk_from nothing_held) (standing position reads.end) (standing position taken.0) reads.leads taken.1
-            (λ fit. (fit.0, fits fit));
-        rows_are = taken.2.rows_are ∙ ap (used a (text ∷ [])) reads.rows_are;
-        settles = λ fit. taken.2.settles (fits fit);
-      }
+-- and then those of an option
+pub reads_option : (s : Shape) (position : ℕ) (before : List Text) (rows : List Row) → Reads s position before rows → (a : Rule) (name text : Text)
+    (words : List Text) → IsOption s a name → AreOptionWords name text words → MayHave s a text rows
+    → Reads s position (before ++ words) (used a (text ∷ []) rows)
+reads_option s position before rows reads a name text words is are may =
+    let fits : MayBeGiven s a text reads.end =
+    (ap (λ (r : List Row). use_passes s.args_override_self a (text ∷ []) r) reads.rows_are ∙ may, reads.settles) in
+    let taken = option_taken s a name is position reads.end text fits words are in
+    record {
+      end = taken.0;
+      leads = leads_then s before words (walk_from nothing_held) (standing position reads.end) (standing position taken.0) reads.leads taken.1;
+      rows_are = taken.2.rows_are ∙ ap (used a (text ∷ [])) reads.rows_are;
+      settles = taken.2.settles;
+    }
 
 -- this positional is the level's at the place, and takes one value
 pub record IsPositional (s : Shape) (a : Rule) (position : ℕ) : Type 0 where
@@ -107,20 +106,20 @@ module _ (s : Shape) (a : Rule) (position : ℕ) (is : IsPositional s a position
       ∙ ap (λ (b : Bool). b || settle_passes s.rules s.args_override_self h) none_more ∙ settles
 
 -- and then a positional
-pub reads_positional : {F : Type 0} (s : Shape) (position : ℕ) (before : List Text) (rows : List Row) → Reads s position before rows F → (a : Rule)
-    (word : Text) → IsPositional s a position → HasNoDash word
-    → Reads s (min (position + 1) usize_max) (before ++ word ∷ []) (used a (word ∷ []) rows) (F × MayHave s a word rows)
-reads_positional {F} s position before rows reads a word is none =
+pub reads_positional : (s : Shape) (position : ℕ) (before : List Text) (rows : List Row) → Reads s position before rows → (a : Rule) (word : Text)
+    → IsPositional s a position → HasNoDash word → MayHave s a word rows
+    → Reads s (min (position + 1) usize_max) (before ++ word ∷ []) (used a (word ∷ []) rows)
+reads_positional s position before rows reads a word is none may =
     let plain = plain_word word none in
     let after = after_word s a position is reads.end word plain in
     let next = next_place s a position is reads.end word plain in
     record {
       end = after;
       leads = leads_then s before (word ∷ []) (walk_from nothing_held) (standing position reads.end) (standing next after) reads.leads
-          (leads_by {F = F} s word (standing position reads.end) (standing next after) (word_is s a position is reads.end word plain)
-          (λ fit. word_passes_here s a position is reads.end word plain (reads.settles fit))) (λ fit. (fit.0, fit.0));
+          (leads_by s word (standing position reads.end) (standing next after) (word_is s a position is reads.end word plain)
+          (word_passes_here s a position is reads.end word plain reads.settles));
       rows_are = ap (λ (r : Option Rule). used_by_id r (word ∷ []) (settled s.rules reads.end).rows) is.by_id ∙ ap (used a (word ∷ [])) reads.rows_are;
-      settles = λ fit.
+      settles =
           ap (λ (r : Option Rule). option_map_or (λ (b : Rule). use_passes s.args_override_self b (word ∷ []) (settled s.rules reads.end).rows) r true) is.by_id
-          ∙ ap (λ (r : List Row). use_passes s.args_override_self a (word ∷ []) r) reads.rows_are ∙ fit.1;
+          ∙ ap (λ (r : List Row). use_passes s.args_override_self a (word ∷ []) r) reads.rows_are ∙ may;
     }

@@ -76,7 +76,7 @@ is_kind a (option name value) = is_sayable name && takes_one a
 is_kind a (flag name) = is_sayable name && (is_set_true (action_of a) && (takes_just 0 a && says_true a.missing))
 is_kind a (positional name value) = takes_one a && not a.trailing_var_arg
 
--- the argument of a level that stands for it, if so many positionals came before, and how many have come then
+-- the argument of a level that is given, if the next positional is the one at this place; and the place of the next one then
 abbrev pub met_at : List Rule → ℕ → Given → Option Rule
 met_at rules place (positional name value) = arg_by_index rules place
 met_at rules place given = arg_by_long rules (name_of given)
