@@ -1,5 +1,6 @@
 /*
  * shamir.h: SLIP-0039 backups of a master secret, for C and C++. The manual page shamir(3) is made of these comments.
+ * SPDX-License-Identifier: MIT
  *
  * The library creates backups, reads and judges mnemonics, recovers secrets and runs drills. It also reports whether mnemonics are
  * enough for a recovery, counts quorums, gives and decrypts encrypted secrets and creates backups of them, computes lost mnemonics and

@@ -1,6 +1,7 @@
 /*
  * shamir.hpp: SLIP-0039 backups of a master secret, for C++17. It is a layer over shamir.h, which says what each call does, and in
  * which order it refuses. Link with the library as a program in C does. docs/LIBRARY.md has a first call.
+ * SPDX-License-Identifier: MIT
  *
  * A text is a std::string_view (Text), and bytes are a view too (Bytes), to which arrays and vectors of std::uint8_t convert. Options
  * are structs, whose fields have defaults, and which own what they hold. A call that takes one mnemonic takes a line feed at its end too.

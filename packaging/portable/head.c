@@ -20,6 +20,7 @@
  *     SHAMIR_CHECKED                                   checks each address of the generated part, and stops the program at one
  *                                                      that is out of range. Tests use it. A call is slower with it.
  *
- * License: LICENSE of shamir. The generated part has the form that wasm2c gives it, and wabt has the Apache License 2.0; see NOTICE of
- * shamir.
+ * SPDX-License-Identifier: MIT AND Apache-2.0
+ *
+ * LICENSE and NOTICE of shamir have the terms. The generated part has the form that wasm2c gives it, and wabt has the Apache License 2.0.
  */

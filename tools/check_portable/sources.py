@@ -31,6 +31,9 @@ int main()
 def made(folder: pathlib.Path) -> None:
     """Makes the files in a folder, as `make portable` does. If dist/c is here, it must have the same files."""
     run(["python3", "-B", str(ROOT / "tools" / "portable"), "--folder", str(folder)])
+    unnamed = [path.name for path in folder.iterdir() if path.suffix in (".c", ".h", ".hpp", ".in", ".txt") and b"SPDX-License-Identifier: " not in path.read_bytes()]
+    if unnamed or not {"LICENSE", "NOTICE"} <= {path.name for path in folder.iterdir()}:
+        raise Failed(f"dist/c lacks LICENSE or NOTICE, or its licence isn't named in {unnamed}")
     if builds.COMMITTED.exists():
         for path in folder.iterdir():
             if path.read_bytes() != (builds.COMMITTED / path.name).read_bytes():
