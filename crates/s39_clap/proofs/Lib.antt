@@ -3,6 +3,7 @@ pub mod Arguments
 pub mod Commands
 pub mod Entered
 pub mod Filled
+pub mod FoundArguments
 pub mod Options
 pub mod Readings
 pub mod Values

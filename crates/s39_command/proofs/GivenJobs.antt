@@ -7,7 +7,8 @@ use Rattle.clap.specs.Walk.{row_text}
 use Rattle.clap.specs.Words.{Row, Shape, Text, first_of, one_of}
 use Rattle.s39_clap.specs.Arguments.{Given, given_for}
 use Rattle.s39_clap.specs.Found.{HasNumber}
-use Rattle.s39_clap.proofs.Arguments.{default_row, row_at}
+use Rattle.s39_clap.proofs.Arguments.{row_at}
+use Rattle.s39_clap.proofs.FoundArguments.{default_row}
 use Rattle.s39_kdf.specs.declared.secret_form.SecretForm.{SecretForm}
 use Rattle.s39_kdf.specs.declared.secret_form.SecretForm.TheVariants.{Digits, Fingerprint, Expected}
 use Rattle.s39_command.specs.declared.command.BadValues.{BadValues}

@@ -5,7 +5,7 @@ use Rattle.clap.specs.Words.{Text}
 use Rattle.clap.proofs.WalkLemmas.{both}
 use Rattle.s39_clap.specs.Arguments.{AreWordsOf, AreWordsOfAll, Given, option, flag, positional}
 use Rattle.s39_clap.specs.Options.{HasNoDash, joined_word, name_word}
-use Rattle.s39_clap.proofs.Arguments.{are_given_to, given_to}
+use Rattle.s39_clap.proofs.FoundArguments.{are_given_to, given_to}
 use Rattle.s39_command.specs.Words.{AreWords, command_of}
 use Rattle.s39_command.proofs.Jobs.{shape_at}
 

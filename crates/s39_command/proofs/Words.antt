@@ -8,7 +8,8 @@ use Rattle.clap.specs.Walk.{answers_to}
 use Rattle.clap.specs.Simple.{label_of}
 use Rattle.clap.specs.Words.{Row, Shape, Text, first_of}
 use Rattle.s39_clap.specs.Arguments.{Given, given_for}
-use Rattle.s39_clap.proofs.Arguments.{AreRead, IsPlainApp, default_row, found_one_of, row_at, words_are_read}
+use Rattle.s39_clap.proofs.Arguments.{row_at}
+use Rattle.s39_clap.proofs.FoundArguments.{AreRead, IsPlainApp, default_row, found_one_of, words_are_read}
 use Rattle.s39_command.specs.Command.{commands, shamir_app}
 use Rattle.s39_command.specs.Words.{AreWords, WordsAreTaken, command_of}
 
