@@ -3,6 +3,7 @@ import { zero } from "./bytes.js";
 import { derivationSeconds } from "./estimate.js";
 
 /** @typedef {import("./desk.js").Tried} Tried */
+/** @typedef {import("./desk.js").Tell} Tell */
 /** @typedef {import("./desk.js").Held} Held */
 /** @typedef {import("./desk.js").Refused} Refused */
 
@@ -18,7 +19,7 @@ export class Declined extends Error {
 /** The owner stopped what was asked. */
 export class Stopped extends Error {}
 
-/** @typedef {{resolve: (value: any) => void, reject: (error: Error) => void, onPart: (part: Tried[]) => void}} Waiting */
+/** @typedef {{resolve: (value: any) => void, reject: (error: Error) => void, onPart: Tell}} Waiting */
 
 /**
  * Returns the bytes that a block of the page holds: packed by zlib, in base64.
@@ -93,12 +94,12 @@ export class Desk {
     return this.ask("begin", { module: this.#module, kept }, kept ? buffersOf(kept) : []);
   }
 
-  /** @param {{id: number, value?: any, part?: Tried[], refused?: Refused | null, fault?: string | null}} data */
-  #answered({ id, value, part, refused, fault }) {
+  /** @param {{id: number, value?: any, part?: Tried[], rounds?: number, refused?: Refused | null, fault?: string | null}} data */
+  #answered({ id, value, part, rounds = 0, refused, fault }) {
     const waiting = this.#waiting.get(id);
     if (!waiting) return;
     if (part) {
-      waiting.onPart(part);
+      waiting.onPart(part, rounds);
       return;
     }
     this.#waiting.delete(id);
@@ -119,7 +120,7 @@ export class Desk {
    * @param {string} call
    * @param {Record<string, any>} [given]
    * @param {ArrayBufferLike[]} [taken] the buffers that the worker takes over
-   * @param {(part: Tried[]) => void} [onPart]
+   * @param {Tell} [onPart]
    * @returns {Promise<any>}
    */
   ask(call, given = {}, taken = [], onPart = () => {}) {
@@ -137,7 +138,7 @@ export class Desk {
    *
    * @param {string} call
    * @param {Record<string, any>} [given]
-   * @param {(part: Tried[]) => void} [onPart]
+   * @param {Tell} [onPart]
    */
   async askLong(call, given = {}, onPart = () => {}) {
     this.#isStopped = false;

@@ -8,6 +8,7 @@ import { mix } from "./dice.js";
 import { judge } from "./judge.js";
 import { beside, kindOf } from "./kind.js";
 import { selfTest } from "./self_test.js";
+import { oneByOne } from "./trial.js";
 
 /** @typedef {import("../bindings/js/shamir.js").Engine} Engine */
 /** @typedef {{group: number, threshold: number, names: string[]}} GroupStatus */
@@ -24,6 +25,7 @@ import { selfTest } from "./self_test.js";
 /** @typedef {{old: Uint8Array[], shown: Uint8Array[], how: How, passphrase: Uint8Array, secret: Uint8Array, fingerprint: string}} Own */
 /** @typedef {Own & {backups: import("./backups.js").Kept}} Held */
 /** @typedef {{code: number, details: number[], text: string}} Refused */
+/** @typedef {(part: Tried[], rounds: number) => void} Tell what hears the outcomes of quorums, and how many of four rounds of the next one are undone */
 
 const QUESTION_MARK = 63;
 
@@ -228,13 +230,19 @@ function typedBack({ index, line }) {
 }
 
 /**
- * Yields what each quorum of papers gives: whether its secret has the fingerprint `expect`, or its fingerprint if that is empty.
+ * Yields what each quorum of papers gives: whether its secret has the fingerprint `expect`, or its fingerprint if that is empty. What goes
+ * on slowly tells how far it is.
  *
  * @param {Uint8Array[]} papers
- * @param {string} expect
+ * @param {{expect: string, isSlow: boolean}} given
+ * @param {(rounds: number) => void} tellRounds
  * @returns {Generator<Tried, void, void>}
  */
-function* outcomes(papers, expect) {
+function* outcomes(papers, { expect, isSlow }, tellRounds) {
+  if (isSlow) {
+    yield* oneByOne(engine, papers, { passphrase: held.passphrase, expect, tell: tellRounds });
+    return;
+  }
   const form = expect === "" ? { fingerprints: true } : { expect };
   for (const { names, fingerprint, expected, mismatch } of engine.drill(papers, { passphrase: held.passphrase, ...form })) {
     yield { names: names.split("+"), fingerprint, expected, mismatch };
@@ -242,35 +250,38 @@ function* outcomes(papers, expect) {
 }
 
 /**
- * Tries every quorum, or the first `limit`, and passes on what they give in parts.
+ * Tries every quorum, or the first `limit`, and passes on what they give in parts, and how many of four rounds of the next one are undone.
  *
- * @param {{limit: number, expect: string, isOld?: boolean}} given
- * @param {(part: Tried[]) => void} tell
+ * @param {{limit: number, expect: string, isSlow: boolean, isOld?: boolean}} given
+ * @param {Tell} tell
  */
-function drill({ limit, expect, isOld }, tell) {
+function drill({ limit, isOld, ...given }, tell) {
   /** @type {Tried[]} */
   let part = [];
   let [tried, told] = [0, performance.now()];
-  for (const outcome of outcomes(papersOf({ isOld }), expect)) {
+  const pass = (rounds = 0) => {
+    tell(part, rounds);
+    [part, told] = [[], performance.now()];
+  };
+  for (const outcome of outcomes(papersOf({ isOld }), given, pass)) {
     part.push(outcome);
     tried += 1;
-    if (performance.now() - told > 100) {
-      tell(part);
-      [part, told] = [[], performance.now()];
-    }
+    if (performance.now() - told > 100) pass();
     if (tried === limit) break;
   }
-  tell(part);
+  pass();
 }
 
 /**
  * Tries the one quorum that these papers are.
  *
- * @param {{names: string[], expect: string, isOld?: boolean}} given
+ * @param {{names: string[], expect: string, isSlow: boolean, isOld?: boolean}} given
+ * @param {Tell} tell
  * @returns {Tried[]}
  */
-function tryOne({ names, expect, isOld }) {
-  return [...outcomes(papersOf({ isOld }).filter((paper) => names.includes(kindOf(engine, paper).name)), expect)];
+function tryOne({ names, isOld, ...given }, tell) {
+  const papers = papersOf({ isOld }).filter((paper) => names.includes(kindOf(engine, paper).name));
+  return [...outcomes(papers, given, (rounds) => tell([], rounds))];
 }
 
 /**
@@ -324,7 +335,7 @@ async function begin({ module, kept }) {
   return { ...tested, version: engine.version(), words: [...engine.words("")], exponentMax: EXPONENT_MAX };
 }
 
-/** @type {Record<string, (given: any, tell: (part: Tried[]) => void) => any>} */
+/** @type {Record<string, (given: any, tell: Tell) => any>} */
 const CALLS = {
   begin,
   describe,
@@ -365,7 +376,7 @@ const CALLS = {
 
 self.onmessage = async ({ data: { id, call, given } }) => {
   try {
-    const value = await CALLS[call](given, (part) => self.postMessage({ id, part }));
+    const value = await CALLS[call](given, (part, rounds) => self.postMessage({ id, part, rounds }));
     self.postMessage({ id, value }, { transfer: value instanceof Uint8Array ? [value.buffer] : [] });
   } catch (error) {
     const refused = error instanceof Refusal ? { code: error.code, details: error.details, text: error.text } : null;

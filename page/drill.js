@@ -17,6 +17,9 @@ import { saidCount, saidOutcome, saidTried, verdictOf } from "./verdict.js";
 
 /** The table shows at most this many quorums that gave the expected secret, and as many others. */
 const ROWS_MAX = 500;
+// If a recovery takes more seconds, quorums are tried one by one.
+const SLOW_FROM = 0.05;
+const ROUNDS = 4;
 /** A screen reader is told of the progress after so many milliseconds, and not at each change. */
 const ANNOUNCED_EVERY = 5000;
 
@@ -70,11 +73,13 @@ export async function runDrill(desk, status, { title, noted, isOwn = false, isOl
   const isWhole = total <= TRIED_WHOLE;
   const hasPassphrase = await desk.ask("hasPassphrase");
   const [kind] = await desk.ask("kinds");
-  const table = new Table(title, total, noted, desk.secondsFor(kind), () => desk.stop());
+  const seconds = desk.secondsFor(kind);
+  const table = new Table(title, total, noted, seconds, () => desk.stop());
+  const what = { expect: noted, isSlow: seconds > SLOW_FROM, isOld };
   let isStopped = false;
   try {
-    await desk.askLong("drill", { limit: isWhole ? 0 : TRIED_FIRST, expect: noted, isOld }, (part) => table.add(part));
-    if (!isWhole) await tryEachPaper(desk, status, { expect: noted, isOld }, table);
+    await desk.askLong("drill", { limit: isWhole ? 0 : TRIED_FIRST, ...what }, (part, rounds) => table.add(part, rounds));
+    if (!isWhole) await tryEachPaper(desk, status, what, table);
   } catch (error) {
     if (error instanceof Declined && error.refused.code === Code.PASSPHRASE) return { refused: error.refused };
     if (!(error instanceof Stopped)) throw error;
@@ -88,7 +93,7 @@ export async function runDrill(desk, status, { title, noted, isOwn = false, isOl
  *
  * @param {Desk} desk
  * @param {Status} status
- * @param {{expect: string, isOld: boolean}} what
+ * @param {{expect: string, isSlow: boolean, isOld: boolean}} what
  * @param {Table} table
  */
 async function tryEachPaper(desk, status, what, table) {
@@ -97,7 +102,7 @@ async function tryEachPaper(desk, status, what, table) {
     const names = quorumWith(status, name);
     if (names === null || known.has(names.join("+"))) continue;
     known.add(names.join("+"));
-    table.add(await desk.askLong("tryOne", { names, ...what }));
+    table.add(await desk.askLong("tryOne", { names, ...what }, (part, rounds) => table.add(part, rounds)));
   }
 }
 
@@ -107,6 +112,7 @@ class Table {
   tried = [];
   #total;
   #noted;
+  #rounds = 0;
   #rows = { expected: 0, other: 0 };
   #body = element("tbody");
   #scroll = element("div", { class: "scroll", tabindex: "0", role: "region", "aria-label": say("drill.caption") });
@@ -137,14 +143,18 @@ class Table {
     this.#say();
   }
 
-  /** @param {Tried[]} part */
-  add(part) {
+  /**
+   * @param {Tried[]} part
+   * @param {number} rounds how many of four rounds of the next quorum are undone
+   */
+  add(part, rounds = 0) {
     this.tried.push(...part);
+    this.#rounds = rounds;
     for (const it of part) {
       const row = this.#row(it);
       if (row) this.#body.append(row);
     }
-    this.#bar.value = this.tried.length;
+    this.#bar.value = this.tried.length + rounds / ROUNDS;
     if (this.tried.length) this.#first?.remove();
     this.#say();
   }
@@ -156,9 +166,10 @@ class Table {
     announce(this.#told);
   }
 
-  /** How many quorums were tried so far. */
+  /** How many quorums were tried so far, and how far the next one is. */
   get #told() {
-    return saidTried(this.tried.length, this.#total);
+    const tried = saidTried(this.tried.length, this.#total);
+    return this.#rounds ? `${tried} ${say("drill.next", { rounds: this.#rounds })}` : tried;
   }
 
   /** @param {Tried} tried */

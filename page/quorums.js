@@ -1,6 +1,8 @@
 // Which quorums are tried if there are too many, and what a drill's outcomes say together.
 
 /** @typedef {import("./desk.js").Status} Status */
+/** @typedef {import("./desk.js").Standing} Standing */
+/** @typedef {import("./desk.js").GroupStatus} GroupStatus */
 /** @typedef {import("./desk.js").Tried} Tried */
 
 /** A drill tries every quorum of papers that have at most this many. */
@@ -15,10 +17,48 @@ export const TRIED_FIRST = 1000;
 /**
  * Returns the groups that are complete.
  *
- * @param {Status} status
+ * @param {Standing} status
  */
 function complete(status) {
   return status.groups.filter((it) => it.names.length >= it.threshold);
+}
+
+/**
+ * Yields the names of each quorum, in the order in which the engine lists them. It counts them too, and a drill is whole only if as many
+ * were tried.
+ *
+ * @param {Standing} status
+ * @returns {Generator<string[], void, void>}
+ */
+export function quorumsOf(status) {
+  return chosen(complete(status), status.required);
+}
+
+/**
+ * @param {GroupStatus[]} groups
+ * @param {number} needed
+ * @returns {Generator<string[], void, void>}
+ */
+function* chosen(groups, needed) {
+  if (needed === 0) yield [];
+  for (const [at, { names, threshold }] of needed ? groups.entries() : []) {
+    if (groups.length - at < needed) return;
+    for (const own of combinations(names, threshold)) {
+      for (const others of chosen(groups.slice(at + 1), needed - 1)) yield [...own, ...others];
+    }
+  }
+}
+
+/**
+ * @param {string[]} names
+ * @param {number} count
+ * @returns {Generator<string[], void, void>}
+ */
+function* combinations(names, count) {
+  if (count === 0) yield [];
+  for (let at = 0; count > 0 && at + count <= names.length; at++) {
+    for (const others of combinations(names.slice(at + 1), count - 1)) yield [names[at], ...others];
+  }
 }
 
 /**

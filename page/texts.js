@@ -391,6 +391,7 @@ export const TEXTS = {
   "drill.start": "Start the drill",
   "drill.progress": "Quorums that were tried",
   "drill.tried": "Quorums tried: {tried} of {total}.",
+  "drill.next": "Of the next one, {rounds} of 4 parts are done.",
   "drill.caption": "What each quorum gave",
   "drill.quorum": "Quorum",
   "drill.gave": "What it gave",

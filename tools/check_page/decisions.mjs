@@ -1,12 +1,12 @@
 // tools/check_page/decisions.py runs this with Node: the table of decisions, beside what the modules of the page decide.
 //
-//     node decisions.mjs FOLDER MODULE.wasm TABLE
+//     node decisions.mjs FOLDER MODULE.wasm TABLE SETS
 //
-// FOLDER has page/ and bindings/js/. Each line of the output is a case that differs, and the last line is the number of cases.
+// FOLDER has page/ and bindings/js/. SETS has sets of papers: quorum by quorum, each gives what a drill of the engine gives. Each line of the output is a case that differs, and the last line is the number of cases.
 import { readFileSync } from "node:fs";
 import { pathToFileURL } from "node:url";
 
-const [folder, module, file] = process.argv.slice(2);
+const [folder, module, file, sets] = process.argv.slice(2);
 const from = (path) => import(new URL(path, pathToFileURL(`${folder}/`)));
 const { load, Refusal } = await from("bindings/js/shamir.js");
 const { bytesOf, typedDigits } = await from("page/bytes.js");
@@ -25,6 +25,7 @@ const { saidForeign, saidRefusal } = await from("page/refusals.js");
 const { resultOf } = await from("page/result.js");
 const { say, saidTime } = await from("page/say.js");
 const { isOpen, marksOf, nearest, seemsBip39 } = await from("page/spelling.js");
+const { oneByOne } = await from("page/trial.js");
 const { saidCount, verdictOf } = await from("page/verdict.js");
 
 const engine = await load(readFileSync(module));
@@ -115,6 +116,19 @@ for (const [key, cases] of Object.entries(JSON.parse(readFileSync(file, "utf8"))
       const [told, wanted] = [found, right].map((value) => JSON.stringify(value));
       if (told !== wanted) console.log(`${key}: ${JSON.stringify(it)}: the page decides ${told}, and right is ${wanted}`);
     }
+  }
+}
+for (const lines of JSON.parse(readFileSync(sets, "utf8"))) {
+  const [papers, passphrase] = [lines.map((line) => bytesOf(line)), bytesOf("TREZOR")];
+  for (const expect of ["", "df41d8fe"]) {
+    let rounds = 0;
+    const found = [...oneByOne(engine, papers, { passphrase, expect, tell: () => (rounds += 1) })];
+    const listed = [...engine.drill(papers, { passphrase, ...(expect ? { expect } : { fingerprints: true }) })];
+    const right = listed.map(({ names, fingerprint, expected, mismatch }) => ({ names: names.split("+"), fingerprint, expected, mismatch }));
+    const secrets = new Set(listed.map((it) => it.fingerprint).filter(Boolean)).size;
+    const [told, wanted] = [found, right].map((value) => JSON.stringify(value));
+    if (told !== wanted) console.log(`quorum by quorum, the page finds ${told}, and the engine ${wanted}`);
+    if (expect === "" && rounds !== 3 * secrets) console.log(`of ${secrets} secrets, the page undoes ${rounds} rounds, and not 3 and the last of each`);
   }
 }
 console.log(String(count));

@@ -7,10 +7,15 @@ import tempfile
 
 from browsers import Failed
 from left_out import is_here
+from samples import PLANS, SOUND_PAPER, THREE_GROUPS, changed, papers_of
 from texts import ROOT
 from tool import ran
 
 TABLE = ROOT / "tools/decisions.json"
+# Papers that agree, that a digest tells apart, and some of which give other secrets.
+SETS = [THREE_GROUPS, THREE_GROUPS[1:], [changed(THREE_GROUPS[0], value=bytes(16)), *THREE_GROUPS[1:]], [*THREE_GROUPS[:3], changed(THREE_GROUPS[3], value=bytes(16)), THREE_GROUPS[4]]]
+SETS += [papers_of(plan) for plan in PLANS]
+SETS += [[changed(SOUND_PAPER, group_count=5, group=group, value=bytes([group]) * 16) for group in range(5)]]
 RUNNER = pathlib.Path(__file__).resolve().parent / "decisions.mjs"
 
 
@@ -29,7 +34,8 @@ def check(root=ROOT):
         shutil.copytree(root / "bindings/js", folder / "bindings/js", ignore=shutil.ignore_patterns("node_modules"))
         # So Node takes the sources for modules.
         (folder / "package.json").write_text('{ "type": "module" }\n')
-        *different, count = ran(["node", RUNNER, folder, engine(), TABLE], stderr=subprocess.PIPE).splitlines()
+        (folder / "sets.json").write_text(json.dumps(SETS))
+        *different, count = ran(["node", RUNNER, folder, engine(), TABLE, folder / "sets.json"], stderr=subprocess.PIPE).splitlines()
     if different:
         raise Failed(f"{len(different)} decisions of the page aren't those of tools/decisions.json, such as {different[0][:900]}")
     if int(count) != sum(map(len, json.loads(TABLE.read_text()).values())):

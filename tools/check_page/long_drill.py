@@ -86,6 +86,26 @@ def check_stop_drill(page, see):
     end(page)
 
 
+def check_slow_drill(page, see):
+    """A slow drill shows how many quorums were tried, and how far the next one is. If it is stopped, what was tried counts. Each of these papers
+    is a quorum with a secret of its own."""
+    total = 12
+    begin(page, "check")
+    take_all(page, [changed(SOUND_PAPER, exponent=7, group_count=total, group=group, value=bytes([group]) * 16) for group in range(total)])
+    answer_passphrase(page, None, None)
+    page.push(say("drill.start"))
+    for tried in (0, 1, 2):
+        shown = [f"{say('drill.tried', tried=tried, total=total)} {say('drill.next', rounds=rounds)}" for rounds in (1, 2, 3)]
+        page.wait(lambda: any(it in page.evaluate("document.body.innerText") for it in shown), f"how far the quorum after {tried} is")
+    see("a slow drill")
+    page.push(say("stop"), to=say("check.done.stopped"))
+    # One more may have been tried meanwhile.
+    told = page.evaluate("document.body.innerText")
+    tried = next((it for it in (2, 3, 4) if say("drill.tried", tried=it, total=total) in told), 0)
+    page.wait_text(say("verdict.several", quorums=f"{tried} quorums", secrets=f"{tried} different secrets"))
+    end(page)
+
+
 def check_stop_make(page, _):
     """The making of a backup with a high exponent says how long it takes, and stops. Nothing is made."""
     begin(page, "make")
@@ -101,4 +121,4 @@ def check_stop_make(page, _):
     clear(page)
 
 
-CHECKS = [check_big, check_most, check_stop, check_stop_drill, check_stop_make]
+CHECKS = [check_big, check_most, check_stop, check_stop_drill, check_slow_drill, check_stop_make]
