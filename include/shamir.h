@@ -378,7 +378,9 @@ shamir_answer shamir_recover(
  * Gives the encrypted secret of a backup, which shamir_decrypt decrypts with a passphrase.
  *
  * lines is as for shamir_recover, and the call combines the same quorum. It takes no passphrase and no iterations. So a program that
- * asks for the passphrase each time can keep the encrypted secret, with its parameters, in place of the mnemonics.
+ * asks for the passphrase each time can keep the encrypted secret, with its parameters, in place of the mnemonics. If the backup is
+ * extendable, shamir_create_from_encrypted writes them as the one mnemonic of the plan 1of1, of which this call gives them again, with
+ * another identifier.
  *
  * The parameters go to *parameters, and the encrypted secret goes to the start of encrypted. written is its length, which is that of
  * the secret. If you only want the parameters, let encrypted_bytes be 0: the call then refuses with 1, and *parameters has them. If

@@ -1031,6 +1031,16 @@ class WorkedExamples(unittest.TestCase):
         drill = shamir.drill(TWO[:1])
         self.refused(30, None, (0, 1), next, drill)
 
+    def test_stored(self):
+        """The encrypted secret of an extendable backup is stored as one mnemonic. Only the identifier is another one."""
+        kept = shamir.encrypted(EXTENDABLE)
+        [stored] = shamir.create_from_encrypted("1of1", kept)
+        again = shamir.encrypted(stored + "\n")
+        self.assertEqual(again, dataclasses.replace(ENCRYPTED[3][1], id=again.id))
+        self.assertNotEqual(again.id, kept.id)
+        self.assertEqual(shamir.decrypt(again, passphrase="TREZOR"), ENCRYPTED[3][2])
+        self.refused(67, None, (0, 0), shamir.create_from_encrypted, "1of1", ENCRYPTED[0][1])
+
     def test_line_feed(self):
         """A line feed may end one mnemonic, and no other place has one. A carriage return before it is a space."""
         spelled = ONE.replace(" keyboard", " ?")
