@@ -323,6 +323,24 @@ void check_no_memory_in_c()
         expect("a paper in C that isn't taken out without memory", answer.code == SHAMIR_E_NO_MEMORY && !answer.first && held.used == there.used
             && held.enough && shamir::Text(held.backup, held.backup_bytes) == shamir::Text(papers({3, 4})));
     }
+    /* Each call that a recovery from papers makes can lack memory. With enough for all, it recovers. */
+    char wrong_room[4096], listing[4096];
+    uint8_t found[SHAMIR_SECRET_BYTES_MAX];
+    shamir_papers wrong = {};
+    wrong.lines = wrong_room;
+    wrong.lines_bytes = sizeof wrong_room;
+    for (const shamir::Text line : {conflicting, lines[1], lines[3], lines[4]}) {
+        expect("a paper in C", shamir_papers_add(&wrong, line.data(), line.size(), text, sizeof text).code == SHAMIR_DONE);
+    }
+    int enough = 0;
+    shamir_answer recovered;
+    do {
+        given = enough++;
+        recovered = shamir_papers_recover(&wrong, "TREZOR", SHAMIR_EXPONENT_MAX, "df41d8fe", found, sizeof found, listing, sizeof listing);
+        given = before;
+        expect("a recovery in C without memory", recovered.code == SHAMIR_E_NO_MEMORY || recovered.code == SHAMIR_DONE);
+    } while (recovered.code != SHAMIR_DONE && enough < 20);
+    expect("a recovery in C with memory", enough > 5 && std::equal(secret.begin(), secret.end(), found) && recovered.first == 2);
     shamir_drilling drilling =
         shamir_drill_start(held.backup, held.backup_bytes, "TREZOR", SHAMIR_EXPONENT_MAX, "df41d8fe", text, sizeof text);
     given = 1;
