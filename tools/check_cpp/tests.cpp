@@ -240,7 +240,8 @@ void check_wrong_papers()
     expect("a right paper beside a wrong one", held.add(lines[0]).error().code == SHAMIR_E_CONFLICTING_SHARE);
     expect("a paper that is taken out", held.remove(1, {0, 0}) && held.enough() && held.add(lines[0]) && (*held.recover(noted)).failed.empty());
     expect("others", shamir::Text(held.lines(1)) == shamir::Text(papers({1, 3, 4, 2, 0})) && held.ids() == std::vector<std::uint16_t>{7945, 1});
-    expect("papers that aren't enough", held.remove(1, {1, 0}) && held.remove(1, {0, 1}) && held.enough() && held.remove(1, {2, 0}) && !held.enough());
+    expect("papers that are still enough", held.remove(1, {1, 0}) && held.remove(1, {0, 1}) && held.enough());
+    expect("papers that aren't enough", held.remove(1, {2, 0}) && !held.enough());
     expect("the last paper", held.remove(1, {0, 0}) && held.remove(1, {0, 2}) && held.ids() == std::vector<std::uint16_t>{7945}
         && !held.enough() && held.recover().error().code == SHAMIR_E_NO_SHARES && held.add(alone) && held.enough());
 }

@@ -878,7 +878,8 @@ def decrypt_rounds(secret: EncryptedSecret, *, passphrase: Text = b"") -> Genera
     """
     parameters = _parameters(secret)
     with _Copies() as own:
-        text, key = own.data(secret.value, "secret.value"), own.data(_encoded(passphrase, "passphrase") if isinstance(passphrase, str) else passphrase, "passphrase")
+        data = _encoded(passphrase, "passphrase") if isinstance(passphrase, str) else passphrase
+        text, key = own.data(secret.value, "secret.value"), own.data(data, "passphrase")
         for number in (3, 2, 1, 0):
             room = own.room(SECRET_BYTES_MAX)
             given = (*text, *key, room, SECRET_BYTES_MAX)
@@ -890,7 +891,9 @@ def _parameters(secret: EncryptedSecret) -> _Parameters:
     if not isinstance(secret, EncryptedSecret):
         raise TypeError(f"secret isn't an EncryptedSecret, but of type {type(secret).__name__}")
     return _Parameters(
-        _number(secret.id, ctypes.c_uint16, "secret.id"), _flag(secret.extendable, "secret.extendable"), _number(secret.exponent, ctypes.c_uint8, "secret.exponent")
+        _number(secret.id, ctypes.c_uint16, "secret.id"),
+        _flag(secret.extendable, "secret.extendable"),
+        _number(secret.exponent, ctypes.c_uint8, "secret.exponent"),
     )
 
 
