@@ -49,7 +49,7 @@ def generate_mnemonics(
     """
     members = [(operator.index(threshold), operator.index(count)) for threshold, count in groups]
     plan = f"{operator.index(group_threshold)}/{','.join(f'{threshold}of{count}' for threshold, count in members)}"
-    secret = memoryview(master_secret).tobytes()
+    secret = shamir._data(master_secret, "master_secret")
     try:
         random = secrets.token_bytes(shamir.random_needed(plan, len(secret)))
         lines = shamir.create(plan, secret, passphrase=passphrase, exponent=iteration_exponent, extendable=extendable, random=random)
@@ -95,4 +95,6 @@ def _check(number: int, line: bytes) -> None:
 
 def _line(mnemonic: str) -> bytes:
     """Return a mnemonic in UTF-8. A line feed may end it. The library refuses another line feed in it, and lone surrogates."""
+    if not isinstance(mnemonic, str):
+        raise TypeError(f"a mnemonic isn't a str, but of type {type(mnemonic).__name__}")
     return str.encode(mnemonic, "utf-8", "surrogatepass")

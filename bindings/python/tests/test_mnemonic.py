@@ -139,6 +139,8 @@ class Calls(unittest.TestCase):
             self.assertRaises(ValueError, generate_mnemonics, *arguments)
         for arguments in [("1", [(1, 1)], SECRET), (1, [("1", 1)], SECRET), (1, [(1, 1)], SECRET.hex()), (1, [(1, 1)], SECRET, b"", 1), (1, 1, SECRET)]:
             self.assertRaises(TypeError, generate_mnemonics, *arguments)
+        self.assertRaisesRegex(TypeError, "^master_secret isn't .* of type str$", generate_mnemonics, 1, [(1, 1)], SECRET.hex())
+        self.assertRaisesRegex(TypeError, "^a mnemonic isn't a str, but of type int$", combine_mnemonics, [7])
 
     def test_no_memory(self):
         """If the library has no memory for a call, no argument is blamed."""
