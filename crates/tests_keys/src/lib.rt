@@ -2,6 +2,8 @@
 #![tactic(auto)]
 
 #[cfg(test)]
+mod base58check;
+#[cfg(test)]
 mod curve;
 #[cfg(test)]
 mod digests;
@@ -9,3 +11,5 @@ mod digests;
 mod expect;
 #[cfg(test)]
 mod extended_keys;
+#[cfg(test)]
+mod segwit;
