@@ -294,6 +294,19 @@ def check_paced_late():
         end_by_keys(owner)
 
 
+def check_paced_letters():
+    """A machine types letter by letter: those that come before a question begin its answer, and show. A whole answer that comes before is none."""
+    paper = papers_of("2of3")[0]
+    with started("check") as owner:
+        owner.answer(paper_prompt(1), with_words(paper, {5: "acdemic"}))
+        owner.wait(word_prompt(5))
+        owner.type(f"acdmic\n{paper.split()[4][:3]}")
+        owner.wait_shown(lambda: owner.screen().endswith(f"{word_prompt(5)} {paper.split()[4][:3]}"), "letters that came before a question are lost")
+        owner.type(f"{paper.split()[4][3:]}\n")
+        owner.wait(paper_prompt(2))
+        end_by_keys(owner)
+
+
 def check_paced_amid():
     """Papers that come while the program says that a word is wrong, or asks whether a word that was found is right."""
     papers = papers_of("3of5")
@@ -317,5 +330,5 @@ def check_paced_amid():
         end_by_keys(owner)
 
 
-CHECKS = [check_paced, check_paced_late, check_paced_amid, check_amid, check_amid_rest, check_early, check_tab, check_answers, check_many, check_misspelt, check_rows, check_elsewhere, check_dropped, check_back, check_cut]
+CHECKS = [check_paced, check_paced_late, check_paced_letters, check_paced_amid, check_amid, check_amid_rest, check_early, check_tab, check_answers, check_many, check_misspelt, check_rows, check_elsewhere, check_dropped, check_back, check_cut]
 check = in_turn(CHECKS)

@@ -340,14 +340,15 @@ class Screen:
         return is_kept
 
     def _papers_ahead(self) -> bytes:
-        """Takes what was typed and not read, if it may be a paper, and papers are asked for."""
+        """Takes what was typed and not read, if it may be a paper, or the begin of a line, and papers are asked for."""
         if not self._keeps or not self.is_pasted(0):
             return b""
         read = bytearray()
         if self._terminal.pasted(read, PASTE_MAX):
             self.tell_seen(say("screen.dropped"))
         whole = bytes(self._begun + read)
-        if len(parts_of(_printable(whole))) < KEPT_LEAST:
+        text = _printable(whole)
+        if not text.strip() or ("\n" in text and len(parts_of(text)) < KEPT_LEAST):
             self._terminal.put_back(read)
             return b""
         self._begun = bytearray()
