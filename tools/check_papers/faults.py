@@ -86,6 +86,7 @@ FAULTS = [
     ("lines that a machine types are judged one by one", "paste", " or (not _is_sound(text, counting) and screen.goes_on())", "", lambda see: pasted.check_paced()),
     ("papers that come where others are to be mended are lost", "collect", 'ask_whole(screen, say("paste.mend"), desk.word_count)', '(screen.pause(say("paste.mend")), "")[1]', lambda see: pasted.check_paced_late()),
     ("papers that come at a question are lost", "screen", "is_kept = self._keeps and", "is_kept = False and", lambda see: pasted.check_paced_amid()),
+    ("letters that come before a question are lost", "screen", '("\\n" in text and len(parts_of(text)) < KEPT_LEAST)', "len(parts_of(text)) < KEPT_LEAST", lambda see: pasted.check_paced_letters()),
     ("papers that come before a fault is told are lost", "screen", "            self._terminal.put_back(kept)\n            return False\n", "            pass\n", lambda see: pasted.check_paced_amid()),
     ("a paste is read as one paper", "entry", "        if len(texts) > 1:", "        if False:", lambda see: pasted.check_rows()),
     ("papers that are pasted in place of a word take the place of the paper", "entry", "            self._heed_others(text, is_continued)\n", "            pass\n", lambda see: pasted.check_amid()),
