@@ -100,6 +100,7 @@ class Collection {
     this.#onDamaged = onDamaged;
     this.#onEnd = onEnd;
     this.#entry = new PaperEntry(desk.begun.words, backups[0]?.kinds[0].words ?? USUAL_WORDS[0], (line) => this.#take(line));
+    this.#entry.takesSeveral = true;
   }
 
   /**

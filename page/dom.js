@@ -31,14 +31,25 @@ export function paragraph(text, kind = "") {
   return element("p", kind ? { class: kind } : {}, text);
 }
 
+// So many milliseconds after a screen has changed, a click was meant for what stood there before.
+const LATE = 600;
+let changed = -LATE;
+
+/** Takes into account that something else stands at each place of the screen now. */
+export function tellChanged() {
+  changed = performance.now();
+}
+
 /**
- * Returns what listens to a button. It doesn't take the second press of a double click, which would press what has come to this place.
+ * Returns what listens to a button. It doesn't take the second press of a double click, or a late one, which would press what has come to
+ * this place. A key has no place.
  *
  * @param {() => void} onPress
  */
 function pressed(onPress) {
   return (/** @type {MouseEvent} */ event) => {
-    if (!(event.detail > 1)) onPress();
+    const isLate = event.detail === 1 && event.timeStamp - changed < LATE;
+    if (!(event.detail > 1 || isLate)) onPress();
   };
 }
 

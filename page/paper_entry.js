@@ -1,9 +1,9 @@
 // The entry of a paper: a numbered field for each word, and the answer to the whole.
-import { button, element, labelled } from "./dom.js";
-import { say } from "./say.js";
+import { button, element, labelled, tellChanged } from "./dom.js";
+import { counted, say } from "./say.js";
 import { announce, askAbove } from "./screen.js";
-import { beginning, seemsBip39 } from "./spelling.js";
-import { bringIntoSight, WordField } from "./word_field.js";
+import { beginning, nearest, seemsBip39, seemsOther } from "./spelling.js";
+import { bringIntoSight, forgetRest, WordField } from "./word_field.js";
 
 /**
  * An answer to a whole paper. If it is taken, the fields are emptied for the next one. `words` are those to look at, counted from 0.
@@ -23,13 +23,15 @@ export class PaperEntry {
   #fields = [];
   /** @type {WordField[]} those that are hidden, since the paper has fewer words, the last one first. What was typed stays in them */
   #spare = [];
-  // The field whose word was completed last.
-  #completedAt = 0;
-  #grid = element("div", { class: "words" });
+  // The field that has the focus, or had it last.
+  #current = 0;
+  #grid = element("div", { class: "words", focusin: () => this.#isAt() });
   #reading = button(say("entry.read"), () => this.#read(), "primary read");
   #answer = element("p", { class: "answer" });
   // What is done if words are missing, so that nobody is asked about the paper.
   onMissing = () => {};
+  // Whether several papers may be pasted at once. Then each is taken after the other.
+  takesSeveral = false;
   // What stands directly below the answer.
   below = element("div", { class: "buttons", focusin: bringIntoSight });
   #count = labelled(say("entry.count"), "number", {
@@ -39,7 +41,15 @@ export class PaperEntry {
   #counts = element("div", { class: "counts" }, this.#count.box);
   /** @type {number | null} */
   #known = null;
+  // How many fields there are, apart from those that were put in.
+  #base = 0;
+  // Moves the words from the current field on.
+  #putting = button("", () => this.#put(this.#current), "small");
+  #taking = button("", () => this.#take(this.#current), "small");
+  #moving = element("div", { hidden: true }, element("div", { class: "buttons" }, this.#putting, this.#taking), element("p", { class: "hint" }, say("entry.keys")));
   #isAsked = false;
+  // Whether the paper was to be read once more before the answer came.
+  #again = false;
   #restoring = button(say("entry.undo"), () => this.#restored(), "hide");
   // The words that were emptied last, until something else is typed.
   /** @type {string[]} */
@@ -60,7 +70,7 @@ export class PaperEntry {
     this.#onPaper = onPaper;
     this.#onChange = onChange;
     this.#known = isKnown ? count : null;
-    const quick = USUAL_WORDS.map((it) => button(say("entry.words", { count: it }), () => this.setCount(it), "small"));
+    const quick = USUAL_WORDS.map((it) => button(say("entry.words", { count: it }), () => this.#chosen(it), "small"));
     this.element = element(
       "div",
       { class: "entry" },
@@ -70,8 +80,11 @@ export class PaperEntry {
       this.below,
       this.#grid,
       element("div", { class: "buttons", focusin: bringIntoSight }, this.#reading, button(say("entry.empty"), () => this.#emptied()), this.#restoring),
+      this.#moving,
     );
     this.#counts.append(...quick);
+    this.#putting.setAttribute("aria-keyshortcuts", "Control+Enter");
+    this.#taking.setAttribute("aria-keyshortcuts", "Control+Delete");
     new ResizeObserver(() => this.#measure()).observe(this.#answer);
     // Before the field itself hears of it, since the field may ask for a new answer.
     this.element.addEventListener("input", () => this.#changed(), true);
@@ -101,12 +114,26 @@ export class PaperEntry {
     return this.words.filter((word) => word !== "");
   }
 
+  /** What was typed, also where the page completed a word before its end was mistyped. */
+  get #asTyped() {
+    return [...this.#fields, ...this.#spare].map((field) => field.typed).filter((word) => word !== "");
+  }
+
   /** Takes the answer away that an earlier state of the fields got. What the engine refused stays until the next answer. */
   #changed() {
     this.#remember([]);
     this.element.classList.remove("foreign");
+    this.#moving.hidden = this.isEmpty;
     if (this.#isMissing || this.#onChange) this.say("");
     this.#onChange?.();
+  }
+
+  /** Takes into account which field has the focus. */
+  #isAt() {
+    this.#current = Math.max(0, this.#fields.findIndex(({ field }) => field === document.activeElement));
+    const number = this.#current + 1;
+    this.#putting.textContent = say("entry.put", { number });
+    this.#taking.textContent = say("entry.take", { number });
   }
 
   /** Moves the focus to the first field. The letters of a word may have led to the screen of this entry. */
@@ -118,15 +145,22 @@ export class PaperEntry {
    * Shows so many fields.
    *
    * @param {number} count
+   * @param {number} [base] how many of them weren't put in
    */
-  setCount(count) {
+  setCount(count, base = count) {
+    this.#base = base;
+    /** @type {import("./word_field.js").Events} */
     const events = {
-      completed: (/** @type {number} */ at, /** @type {boolean} */ isBySpelling) => this.#completed(at, isBySpelling),
-      back: (/** @type {number} */ at) => this.#fields[Math.max(0, at - 1)].focus(),
-      spread: (/** @type {number} */ at, /** @type {string[]} */ words) => this.#spread(at, words),
-      guessed: (/** @type {number} */ at) => this.#guessed(at),
+      completed: (at, isBySpelling) => this.#completed(at, isBySpelling),
+      back: (at) => this.#fields[Math.max(0, at - 1)].focus(),
+      spread: (at, words) => void this.#spread(at, words),
+      guessed: (at) => this.#guessed(at),
+      pasted: (at, papers) => this.#pasted(at, papers),
+      beyond: (at, letters) => this.#goBeyond(at, letters),
+      put: (at) => this.#put(at),
+      take: (at) => this.#take(at),
       ended: () => this.#ended(),
-      mistyped: () => this.#mistyped(),
+      mistyped: (field, typed) => this.#mistyped(field, typed),
     };
     while (this.#fields.length > count) this.#spare.push(/** @type {WordField} */ (this.#fields.pop()));
     while (this.#fields.length < count) {
@@ -147,6 +181,88 @@ export class PaperEntry {
     const count = Number(this.#count.field.value);
     if (Number.isInteger(count) && count >= 1 && count <= COUNT_MAX) this.setCount(count);
     else this.#count.field.value = String(this.count);
+  }
+
+  /**
+   * Shows so many fields, and goes on with the first that is empty.
+   *
+   * @param {number} count
+   */
+  #chosen(count) {
+    this.setCount(count);
+    (this.#fields.find((field) => field.word === "") ?? this.#fields[count - 1]).focus();
+  }
+
+  /**
+   * Goes on with a paper of the other usual length, after whose first words the fields end.
+   *
+   * @param {number} at
+   * @param {string} letters what was typed after the last word
+   */
+  #goBeyond(at, letters) {
+    const [few, many] = USUAL_WORDS;
+    if (at + 1 !== few || this.count !== few || this.#known !== null) return false;
+    this.setCount(many, few);
+    this.say(say("entry.beyond", { few, many }));
+    this.#fields[few].takeOver(letters);
+    return true;
+  }
+
+  /**
+   * Returns what was typed in the fields from this one on to the current one.
+   *
+   * @param {number} first
+   */
+  #typedFrom(first) {
+    return this.#fields.slice(first, this.#current + 1).map(({ field }) => field.value);
+  }
+
+  /**
+   * Begins the next paper with words that came before the answer to the paper before.
+   *
+   * @param {string[]} words the last one may not be complete
+   */
+  #begin(words) {
+    words.slice(0, -1).forEach((word, at) => this.#fields[at].set(word));
+    this.#fields[words.length - 1].takeOver(words[words.length - 1]);
+  }
+
+  /**
+   * Puts an empty field in, so that the words from there on move by one.
+   *
+   * @param {number} at
+   */
+  #put(at) {
+    if (this.#fields[this.count - 1].word !== "" && this.count < COUNT_MAX) this.setCount(this.count + 1, this.#base);
+    for (let to = this.count - 1; to > at; to -= 1) this.#fields[to].set(this.#fields[to - 1].word, this.#fields[to - 1].isDoubted);
+    this.#moved(at, "entry.put.done");
+  }
+
+  /**
+   * Takes a field out, so that the words after it move back by one.
+   *
+   * @param {number} at
+   */
+  #take(at) {
+    for (let to = at; to < this.count - 1; to += 1) this.#fields[to].set(this.#fields[to + 1].word, this.#fields[to + 1].isDoubted);
+    this.#moved(this.count - 1, "entry.take.done");
+    if (this.count > this.#base) this.setCount(this.count - 1, this.#base);
+    this.#fields[Math.min(at, this.count - 1)].focus();
+    if (this.#isFull) this.#read();
+  }
+
+  /**
+   * Empties the field that words moved away from.
+   *
+   * @param {number} emptied
+   * @param {string} key what a screen reader says
+   */
+  #moved(emptied, key) {
+    forgetRest();
+    this.#fields[emptied].set("");
+    this.#changed();
+    this.#fields[emptied].focus();
+    announce(say(key));
   }
 
   /** Empties the fields, and shows as many as the paper is known to have. */
@@ -179,10 +295,32 @@ export class PaperEntry {
   }
 
   /**
+   * Takes the papers that were pasted, one after the other, until one is refused.
+   *
+   * @param {number} at
+   * @param {string[][]} papers
+   */
+  async #pasted(at, papers) {
+    if (papers.length > 1 && !this.takesSeveral) {
+      this.say(say("entry.several_papers", { count: papers.length }), true);
+      return;
+    }
+    for (const [index, words] of papers.entries()) {
+      const isTaken = await this.#spread(papers.length > 1 ? 0 : at, words);
+      const left = papers.length - index - 1;
+      if (isTaken || left === 0) continue;
+      this.say(`${this.#answer.textContent} ${say("entry.left", { papers: counted(left, "paper") })}`, true);
+      return;
+    }
+  }
+
+  /**
+   * Puts words into the fields. Returns whether they were taken as a paper.
+   *
    * @param {number} at
    * @param {string[]} words
    */
-  #spread(at, words) {
+  async #spread(at, words) {
     this.#changed();
     const isWhole = at === 0 && words.length >= USUAL_WORDS[0];
     if (isWhole || at + words.length > this.count) this.setCount(Math.min(COUNT_MAX, at + words.length));
@@ -193,8 +331,7 @@ export class PaperEntry {
     const after = at + words.length;
     if (after < this.count) this.#fields[after].focus();
     else this.#fields[this.count - 1].focus();
-    if (at === 0) this.#read();
-    else if (this.#isFull) this.#read();
+    return at === 0 || this.#isFull ? this.#read() : false;
   }
 
   /**
@@ -203,9 +340,24 @@ export class PaperEntry {
    */
   #completed(at, isBySpelling) {
     this.#changed();
-    this.#completedAt = at;
-    if (this.#isFull) this.#read(isBySpelling);
-    else this.#go(this.#next(at), isBySpelling);
+    if (this.#isFull) {
+      this.#read(isBySpelling);
+      return;
+    }
+    this.#go(this.#next(at), isBySpelling);
+    if (seemsOther(this.#list, this.#asTyped)) this.#tellOther(say("entry.other_list"));
+  }
+
+  /**
+   * Says that the words are of another standard, and offers none of the list in their places.
+   *
+   * @param {string} told
+   */
+  #tellOther(told) {
+    this.element.classList.add("foreign");
+    if (this.#answer.textContent === told) return;
+    this.say(told, true);
+    this.#isMissing = true;
   }
 
   /**
@@ -232,12 +384,23 @@ export class PaperEntry {
     if (this.#isFull) this.#read();
   }
 
-  /** The end of the last completed word was mistyped, so that word may be a wrong one. The paper may have been taken meanwhile. */
-  #mistyped() {
-    const field = this.#fields[this.#completedAt];
-    if (!field?.word) return;
-    field.doubt();
-    this.say(say("entry.mistyped", { number: this.#completedAt + 1 }), true);
+  /**
+   * A word was mistyped, and its first letters completed another one. If that is the nearest word, it stays, to be looked at. Otherwise what was
+   * typed stands there. The paper may have been taken meanwhile.
+   *
+   * @param {WordField} field
+   * @param {string} typed
+   */
+  #mistyped(field, typed) {
+    const at = this.#fields.indexOf(field);
+    if (at < 0 || field.word === "") return;
+    const isNear = nearest(this.#list, typed, 1)[0] === field.word;
+    if (isNear) field.doubt(typed);
+    else field.set(typed);
+    if (this.count > this.#base && this.#fields.slice(this.#base).every(({ word }) => word === "")) this.setCount(this.#base);
+    // Of a word that stays, a whole paper was read already.
+    if (!isNear || !this.#isFull) this.#completed(at, false);
+    if (isNear && !this.#isMissing) this.say(say("entry.mistyped", { number: at + 1 }), true);
   }
 
   /**
@@ -300,21 +463,25 @@ export class PaperEntry {
    */
   #missing() {
     const words = this.#typed;
-    if (seemsBip39(this.#list, words)) return { told: say("entry.bip39", { count: words.length }), isForeign: true };
+    if (seemsBip39(this.#list, this.#asTyped)) return { told: say("entry.bip39", { count: words.length }), isForeign: true };
     const empty = this.#fields.findIndex((field) => field.word === "");
-    if (empty < 0) return null;
+    if (empty < 0) return seemsOther(this.#list, this.#asTyped) ? { told: say("entry.other_list") } : null;
     if (words.length === 0) return { told: say("entry.nothing") };
     const told = say(this.#onChange ? "damaged.missing" : this.#counts.hidden ? "back.missing" : "entry.missing", { number: empty + 1, count: words.length, fields: this.count });
     return { told, field: this.#fields[empty] };
   }
 
   /**
-   * Asks for the answer to the whole paper.
+   * Asks for the answer to the whole paper, and returns whether it was taken.
    *
    * @param {boolean} [isBySpelling] whether the letters of a word ended the paper
+   * @returns {Promise<boolean>}
    */
   async #read(isBySpelling = false) {
-    if (this.#isAsked) return;
+    if (this.#isAsked) {
+      this.#again = true;
+      return false;
+    }
     const missing = this.#missing();
     if (missing !== null) {
       missing.field?.focus();
@@ -322,17 +489,31 @@ export class PaperEntry {
       this.onMissing();
       this.say(missing.told, true);
       this.#isMissing = true;
-      return;
+      return false;
     }
     this.#isAsked = true;
+    this.#again = false;
+    const { count, words: asked } = this;
     const { isTaken, text, isFault = !isTaken, words = [] } = await this.#onPaper(this.line()).finally(() => (this.#isAsked = false));
-    if (!this.element.isConnected) return;
+    if (!this.element.isConnected) return isTaken;
+    const beyond = this.#typedFrom(count);
+    // Other words came than were asked about, or more.
+    if (beyond.length && !isTaken) return false;
+    if (this.#again && !isTaken && this.words.some((word, at) => word !== asked[at])) return this.#read(isBySpelling);
     this.say(text, isFault);
+    // What is said moves the buttons.
+    tellChanged();
     if (isTaken) this.clear();
+    if (beyond.length) {
+      this.setCount(count);
+      this.#begin(beyond);
+      return true;
+    }
     for (const word of words) this.#fields[word]?.doubt();
     // Letters of the last word may still come. They must not replace the word to look at.
     if (words.length && !isBySpelling) this.#fields[words[0]]?.select();
     else if (isTaken || words.length) this.#go(this.#fields[words[0] ?? 0], isBySpelling);
+    return isTaken;
   }
 }
 

@@ -1,5 +1,5 @@
 // The one screen that the page shows at a time, what a screen reader is told, and what leaves the page's elements with it.
-import { BACK, button, concealIn, element, paragraph } from "./dom.js";
+import { BACK, button, concealIn, element, paragraph, tellChanged } from "./dom.js";
 import { estimated } from "./estimate.js";
 import { say } from "./say.js";
 
@@ -114,6 +114,7 @@ export function show(title, back, ...children) {
   for (const child of children) if (child !== null) main.append(child);
   window.scrollTo(0, 0);
   heading.focus();
+  tellChanged();
 }
 
 /**

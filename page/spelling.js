@@ -23,12 +23,57 @@ export function marksOf(text) {
   return separated(text.replace(/[_?]+/g, "?"), /[^\p{L}\p{M}?]+/u);
 }
 
+/** @param {string} text */
+function bare(text) {
+  return text.replace(HEADING, " ");
+}
+
 /**
  * @param {string} text
  * @param {RegExp} separator
  */
 function separated(text, separator) {
-  return text.replace(HEADING, " ").toLowerCase().split(separator).filter((part) => part !== "");
+  return bare(text).toLowerCase().split(separator).filter((part) => part !== "");
+}
+
+// A paper has at least so many words.
+const LEAST = 20;
+
+/**
+ * Returns the words of each paper that a text has. Papers stand apart by a heading, by an empty line, or each in a line. Numbers before all words
+ * say their order, as in a table with two columns. Without these, the same 2 words at the beginning tell the papers of a backup.
+ *
+ * @param {string} text
+ * @param {(text: string) => string[]} read returns the words of a text
+ * @returns {string[][]}
+ */
+export function papersOf(text, read) {
+  for (const separator of [HEADING, /\n\s*\n/, /\n/]) {
+    const parts = text.split(separator).filter((part) => read(part).length > 0);
+    if (parts.length > 1 && parts.every((part) => read(part).length >= LEAST)) return parts.flatMap((part) => inOrder(part, read));
+  }
+  return inOrder(text, read);
+}
+
+/**
+ * @param {string} text
+ * @param {(text: string) => string[]} read
+ * @returns {string[][]}
+ */
+function inOrder(text, read) {
+  const words = read(text);
+  /** @type {string[][]} */
+  const places = [];
+  for (const [, number, part] of bare(text).matchAll(/(?:(\d+)[^\p{L}\p{M}\d?_]*)?([\p{L}\p{M}?_]+)/gu)) {
+    if (number !== undefined && Number(number) <= words.length) (places[Number(number) - 1] ??= []).push(...read(part));
+  }
+  const papers = places[0]?.map((_, paper) => places.map((found) => found[paper]));
+  // Each number from 1 on stands as often before a word as any other one.
+  if (papers && papers.flat().length === words.length && papers.flat().every((word) => word !== undefined)) return papers;
+  const begins = words.flatMap((word, at) => (word === words[0] && words[at + 1] === words[1] ? [at] : []));
+  const ends = [...begins.slice(1), words.length];
+  if (begins.length > 1 && begins.every((at, paper) => ends[paper] - at >= LEAST)) return begins.map((at, paper) => words.slice(at, ends[paper]));
+  return words.length ? [words] : [];
 }
 
 /**
@@ -176,20 +221,29 @@ export function endsBefore(list, letters, whole, rest) {
   return letters === whole || isRestWhole(list, letters, rest, true);
 }
 
-// So many letters may be wrong in the rest of a word.
+// So many letters may be wrong in a word.
 const MISTYPED_MAX = 2;
+// Nobody types so many letters for one word of the list, and so few are no word.
+const TYPED_MOST = 10;
+const TYPED_LEAST = 4;
 
 /**
- * Whether letters that are ended, and that make no word, are most likely the rest of the word before, mistyped. A question mark is none.
+ * Whether letters that a key ended are the end of the word before, mistyped. If they make a word, they are so only if all that was typed is
+ * nearly the word before. A question mark is none.
  *
  * @param {readonly string[]} list
  * @param {string} letters
  * @param {Rest} rest
+ * @param {string} typed all that was typed since the last key
+ * @param {readonly string[]} words the words that it completed
  */
-export function isMistypedRest(list, letters, rest) {
-  if (letters === "" || letters.includes("?") || rest.letters === "" || beginning(list, letters).length === 1) return false;
-  if (letters.length > rest.letters.length + 1) return false;
-  return distance(letters, rest.letters) <= MISTYPED_MAX;
+export function isTail(list, letters, rest, typed, words) {
+  const isOfSeveral = words.length > 1;
+  if (letters.includes("?") || typed.length > TYPED_MOST || (letters === "" && !isOfSeveral)) return false;
+  if (letters === "" || beginning(list, letters).length === 1) return distance(typed, words[0]) < MISTYPED_MAX;
+  const isNear = list.some((word) => distance(typed, word) <= MISTYPED_MAX);
+  if (isNear || isOfSeveral) return isNear;
+  return letters.length < TYPED_LEAST || (letters.length <= rest.letters.length + 1 && distance(letters, rest.letters) <= MISTYPED_MAX);
 }
 
 /**
@@ -238,15 +292,36 @@ export function nearest(list, typed, count = 5) {
 // A BIP-39 backup most often has one of these numbers of words, and at least a quarter of them aren't in the list.
 const BIP39_COUNTS = [12, 24];
 const BIP39_FOREIGN = 0.25;
+// From so many words on, more than this part of them tells another list.
+const OTHER_LEAST = 4;
+const OTHER_FOREIGN = 1 / 3;
 
 /**
- * Whether words are likely to be a BIP-39 backup. Letters with which only one word of the list begins stand for that word.
+ * Returns how many words aren't in the list. Letters with which only one word of the list begins stand for that word.
+ *
+ * @param {readonly string[]} list
+ * @param {readonly string[]} words
+ */
+function foreign(list, words) {
+  return words.filter((word) => !word.endsWith("?") && !list.includes(word) && beginning(list, word).length !== 1).length;
+}
+
+/**
+ * Whether words are likely to be a BIP-39 backup.
  *
  * @param {readonly string[]} list
  * @param {readonly string[]} words
  */
 export function seemsBip39(list, words) {
-  const isForeign = (/** @type {string} */ word) => !word.endsWith("?") && !list.includes(word) && beginning(list, word).length !== 1;
-  const foreign = words.filter(isForeign).length;
-  return BIP39_COUNTS.includes(words.length) && foreign >= BIP39_FOREIGN * words.length;
+  return BIP39_COUNTS.includes(words.length) && foreign(list, words) >= BIP39_FOREIGN * words.length;
+}
+
+/**
+ * Whether the words so far are likely to be of another list.
+ *
+ * @param {readonly string[]} list
+ * @param {readonly string[]} words
+ */
+export function seemsOther(list, words) {
+  return words.length >= OTHER_LEAST && foreign(list, words) > OTHER_FOREIGN * words.length;
 }

@@ -7,16 +7,21 @@
 import { button, element, input } from "./dom.js";
 import { say } from "./say.js";
 import { announce, setTouched } from "./screen.js";
-import { beginning, endsBefore, habitOf, isMark, isMistypedRest, isRestWhole, marksOf, nearest, NO_REST, NOTHING_SEEN, readings, seenWith, wordsOf } from "./spelling.js";
+import { beginning, endsBefore, habitOf, isMark, isRestWhole, isTail, marksOf, nearest, NO_REST, NOTHING_SEEN, papersOf, readings, seenWith, wordsOf } from "./spelling.js";
 
 /**
  * @typedef {object} Events
  * @property {(at: number, isBySpelling: boolean) => void} completed the word has ended, by its letters alone or by a key after it
  * @property {(at: number) => void} back Backspace in an empty field
  * @property {(at: number, words: string[]) => void} spread several words came
+ * @property {(at: number, papers: string[][]) => void} pasted the words of a paper came, or those of several
  * @property {() => void} ended Enter
+ * @property {(at: number, letters: string) => boolean} beyond letters came after the word, which has ended. Returns whether another field took them
  * @property {(at: number) => void} guessed the letters of the word can be read in another way too, and only the habit of the typist decided
- * @property {() => void} mistyped what was typed here is the rest of the word before, mistyped, and is left out
+ * @property {(field: WordField, typed: string) => void} mistyped letters completed a word, and what came after them until a key isn't its
+ *   rest, so it is left out: all of it is one word, which is mistyped
+ * @property {(at: number) => void} put a word is to be put in before this one
+ * @property {(at: number) => void} take this word is to be taken out
  */
 
 const OFFERED = 8;
@@ -38,6 +43,15 @@ let arrived = null;
 let seen = NOTHING_SEEN;
 
 /**
+ * The letters since the last key that ends a word, the fields whose words they completed, and the last of these words.
+ *
+ * @typedef {{letters: string, fields: WordField[], word: string}} Run
+ */
+
+/** @type {Run | null} */
+let run = null;
+
+/**
  * Brings what gets the focus into sight. Firefox leaves what is in part below an answer where it is.
  *
  * @param {Event} event
@@ -50,6 +64,7 @@ export function bringIntoSight({ target }) {
 export function forgetRest() {
   rest = NO_REST;
   arrived = null;
+  run = null;
 }
 
 /** Forgets what was typed, and how. */
@@ -68,8 +83,12 @@ export class WordField {
   #ahead = element("div", { class: "ahead", "aria-hidden": "true" });
   // What stood here when the word was completed or the focus came. Letters after it may belong to the last completed word.
   #whole = "";
+  // The word that stood here, and whether it was one to look at, until the letters that came after another word are known to be a word.
+  #before = { word: "", isDoubted: false };
   // The word that is marked and for which words are offered, or nothing.
   #marked = "";
+  // What was typed in place of the word, if that was mistyped.
+  #typedAs = "";
 
   /**
    * @param {number} at
@@ -103,17 +122,36 @@ export class WordField {
     return this.#list.includes(this.word) || (this.#isDamaged && isMark(this.#list, this.word));
   }
 
+  /** What was typed here: another word than the one that stands here, if it was mistyped. */
+  get typed() {
+    return this.#typedAs || this.word;
+  }
+
+  /** Whether the word is one to look at. */
+  get isDoubted() {
+    return this.box.classList.contains("doubt");
+  }
+
   /**
    * Puts a word into the field.
    *
    * @param {string} word
+   * @param {boolean} [isDoubted] whether it is one to look at
    */
-  set(word) {
+  set(word, isDoubted = false) {
     this.#trust();
     this.#suggest("");
     this.field.value = word;
     this.#whole = this.isRight ? word : "";
     this.#mark(word !== "" && !this.isRight);
+    if (isDoubted) this.doubt();
+  }
+
+  /** Takes letters that came in the field before, and goes on with them here. */
+  takeOver(/** @type {string} */ letters) {
+    this.arrive();
+    this.field.value = letters;
+    this.#typed();
   }
 
   /** Moves the focus here. */
@@ -133,8 +171,11 @@ export class WordField {
 
   /** Moves the focus here after a word that its letters completed. More of its letters may come, and a key that ends it. */
   arrive() {
+    // What may still come doesn't end with the focus of the field before.
+    arrived = null;
     this.focus();
     arrived = this;
+    this.#before = { word: this.word, isDoubted: this.isDoubted };
   }
 
   /** Moves the focus here on a new screen. If the letters of a word led to it, more of them may come, and a key that ends it. */
@@ -143,30 +184,37 @@ export class WordField {
     else this.arrive();
   }
 
-  /** Marks the word as one to look at, until it is changed. */
-  doubt() {
+  /**
+   * Marks the word as one to look at, until it is changed.
+   *
+   * @param {string} [typed] what was typed in its place
+   */
+  doubt(typed = "") {
+    this.#typedAs = typed;
     this.box.classList.add("doubt");
   }
 
-  get #isDoubted() {
-    return this.box.classList.contains("doubt");
-  }
-
   #trust() {
+    this.#typedAs = "";
     this.box.classList.remove("doubt");
   }
 
-  /** @param {InputEvent} event */
+  /** @param {InputEvent} [event] */
   #typed(event) {
     const whole = this.#whole;
     let value = this.field.value.toLowerCase();
     // A line stands for what can't be read, as a question mark does.
     if (this.#isDamaged && value.includes("_")) this.field.value = value = value.replace(/[?_]+/g, "?");
     if (this.#isRestOfOwn(value)) return;
-    if (whole !== "" && this.#isDoubted && value.startsWith(whole)) {
-      // The owner types the word anew. No word of the list begins with another one.
-      value = value.slice(whole.length);
-      this.field.value = value;
+    if (whole !== "" && value.startsWith(whole) && value !== whole) {
+      const more = value.slice(whole.length);
+      // The owner types the word anew, or goes on. No word of the list begins with another one.
+      if (this.isDoubted || arrived === this) this.field.value = value = more;
+      else {
+        this.field.value = whole;
+        if (this.#events.beyond(this.#at, more)) return;
+        this.field.value = value;
+      }
     }
     this.#trust();
     const words = this.#isDamaged ? marksOf(value) : wordsOf(value);
@@ -177,11 +225,11 @@ export class WordField {
     const letters = words[0] ?? "";
     const isEnded = letters !== value;
     const isRest = isRestWhole(this.#list, letters, rest, isEnded);
-    if (isEnded && !isRest && this.#isMistyped(letters)) return;
-    if (isEnded) arrived = null;
+    if (isEnded && this.#isMistyped(isRest ? "" : letters)) return;
+    if (isEnded) arrived = run = null;
     if (isEnded && letters === "") rest = NO_REST;
     if (isRest) {
-      if (!isEnded) seen = seenWith(seen, letters.length, rest);
+      if (!isEnded) this.#goOn(letters);
       rest = NO_REST;
       this.set("");
     } else if (letters === "") {
@@ -191,21 +239,45 @@ export class WordField {
       this.field.value = letters;
       this.finish();
     } else {
-      this.#grown(letters, !event.inputType?.startsWith("delete"));
+      this.#grown(letters, !event?.inputType?.startsWith("delete"));
     }
   }
 
   /**
-   * Whether the letters of this field, which are ended, are the rest of the word before, mistyped. Then they are left out.
+   * Takes the rest of the word before into account, which was typed here.
    *
    * @param {string} letters
    */
+  #goOn(letters) {
+    seen = seenWith(seen, letters.length, rest);
+    if (run) run.letters += letters;
+  }
+
+  /**
+   * Whether all that was typed since the last key is one word, which is mistyped, and whose first letters completed another. Then what came
+   * of it into this field and others is left out.
+   *
+   * @param {string} letters what a key ended in this field
+   */
   #isMistyped(letters) {
-    if (arrived !== this || !isMistypedRest(this.#list, letters, rest)) return false;
+    if (run === null) return false;
+    const { fields, word } = run;
+    // From the last field, the focus has nowhere to go.
+    const isOwn = arrived !== this && fields.at(-1) === this && letters.startsWith(word);
+    if (arrived !== this && !isOwn) return false;
+    const tail = isOwn ? letters.slice(word.length) : letters;
+    const typed = run.letters + tail;
+    if (!isTail(this.#list, tail, rest, typed, [...fields.slice(0, -1).map((field) => field.word), word])) return false;
     forgetRest();
-    this.set("");
-    this.#events.mistyped();
+    if (isOwn) this.set(word);
+    else this.#restore();
+    for (const field of fields.slice(1)) field.#restore();
+    this.#events.mistyped(fields[0], typed);
     return true;
+  }
+
+  #restore() {
+    this.set(this.#before.word, this.#before.isDoubted);
   }
 
   /**
@@ -223,9 +295,11 @@ export class WordField {
     this.#whole = whole;
     const count = more.trim().length;
     rest = { letters: rest.letters.slice(count), toFour: Math.max(0, rest.toFour - count) };
+    if (run) run.letters += more.trim();
     if (more.trim() !== "") return true;
-    // A space ends the last word, so nothing more of it comes, not even on the next screen.
     const isBefore = arrived === this;
+    if (this.#isMistyped("")) return true;
+    // A space ends the last word, so nothing more of it comes, not even on the next screen.
     this.#moved();
     if (!isBefore && this.isRight) this.#events.completed(this.#at, false);
     return true;
@@ -281,6 +355,8 @@ export class WordField {
     let count = Math.min(letters.length, word.length);
     while (!letters.endsWith(word.slice(0, count))) count -= 1;
     if (isBySpelling && arrived === this && rest.letters !== "") seen = seenWith(seen, letters.length - count, rest);
+    const on = arrived === this && this.#before.word === "" ? run : null;
+    run = isBySpelling ? { letters: (on?.letters ?? "") + letters, fields: [...(on?.fields ?? []), this], word } : null;
     arrived = null;
     rest = isBySpelling ? { letters: word.slice(count), toFour: Math.max(0, 4 - count) } : NO_REST;
     this.#events.completed(this.#at, isBySpelling);
@@ -288,11 +364,13 @@ export class WordField {
 
   /** Ends the word, as a space does. A word that isn't right stays as it is, and is marked. */
   finish() {
+    run = null;
     const found = beginning(this.#list, this.word);
     if (this.isRight) this.#complete(this.word, this.word, false);
     else if (found.length === 1) this.#complete(found[0], found[0], false);
     else {
       this.#mark(true);
+      this.#whole = this.word;
       this.#events.completed(this.#at, false);
     }
   }
@@ -302,6 +380,7 @@ export class WordField {
     if (isRestWhole(this.#list, this.word, rest, true)) this.set("");
     if (arrived === this) this.#moved();
     if (this.word === "" || this.isRight) return;
+    this.#whole = "";
     const found = beginning(this.#list, this.word);
     if (this.#isDamaged && found.length === 1) this.set(found[0]);
     else this.#mark(true);
@@ -355,11 +434,19 @@ export class WordField {
   /** @param {KeyboardEvent} event */
   #pressed(event) {
     const isEnding = event.key === "Enter" || (event.key === "Tab" && !event.shiftKey);
-    if (isEnding && arrived === this && endsBefore(this.#list, this.word, this.#whole, rest)) {
+    const isBefore = isEnding && arrived === this && endsBefore(this.#list, this.word, this.#whole, rest);
+    if (event.ctrlKey && (event.key === "Enter" || event.key === "Delete")) {
+      event.preventDefault();
+      if (event.key === "Enter") this.#events.put(this.#at);
+      else this.#events.take(this.#at);
+    } else if (isEnding && this.#isMistyped(isBefore ? "" : this.word)) {
+      event.preventDefault();
+    } else if (isBefore) {
       // This key ends the word before, from which the focus has already come here.
       event.preventDefault();
       if (this.word !== this.#whole) this.set("");
-    } else if (isEnding && this.#isMistyped(this.word)) {
+    } else if (event.key === "Tab" && isEnding && run?.fields.at(-1) === this) {
+      // It ends this word, the last one, from which the focus has nowhere to go.
       event.preventDefault();
     } else if (event.key === "Backspace" && this.field.value === "") {
       event.preventDefault();
@@ -375,6 +462,7 @@ export class WordField {
   /** No more letters of the word before come now. */
   #moved() {
     rest = NO_REST;
+    run = null;
     if (arrived === this) arrived = null;
   }
 
@@ -384,8 +472,7 @@ export class WordField {
     this.#moved();
     // No field hears of this as of typing.
     setTouched(true);
-    const text = event.clipboardData?.getData("text") ?? "";
-    const words = this.#isDamaged ? marksOf(text) : wordsOf(text);
-    if (words.length) this.#events.spread(this.#at, words);
+    const papers = papersOf(event.clipboardData?.getData("text") ?? "", this.#isDamaged ? marksOf : wordsOf);
+    if (papers.length) this.#events.pasted(this.#at, papers);
   }
 }

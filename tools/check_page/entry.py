@@ -2,7 +2,7 @@
 from browsers import Failed
 from choices import ABOVE
 from refusals import said
-from samples import BAD_CHECKSUM, BAD_PADDING, EXCHANGED, SOUND_PAPER, THREE_GROUPS, TWO, changed, name_of, with_words
+from samples import BAD_CHECKSUM, BAD_PADDING, BIP39, BIP39_LONG, EXCHANGED, LONG, SOUND_PAPER, THREE_GROUPS, TWO, changed, name_of, with_words
 from tasks import begin, begin_replace, clear, end, found_words, paste, take_all, type_damaged
 from texts import counted, say
 
@@ -168,6 +168,163 @@ def check_mistyped(page, see):
         page.wait_text(say("collect.taken", name="0.0"))
         page.push(say("collect.drop", name="0.0"))
         page.wait_text(say("collect.dropped", name="0.0"))
+    clear(page)
+
+
+# What stands in the fields, and the numbers of the words that are marked.
+FIELDS = "[...document.querySelectorAll('.word:not([hidden]) input')].map((it) => it.value).join(' ').trim()"
+MARKED = "[...document.querySelectorAll('.word')].map((it, at) => it.matches('.doubt, .wrong') ? at + 1 : '').join(' ').trim()"
+# What is typed in place of word 3, and what stands there then. The first letters of each typo make another word, and the others can make one more.
+TYPOS = {"beling": "beling", "belixq": "belixq", "acadenic": "academic", "acadmic": "academic", "distsnce": "distance", "trafvic": "traffic"}
+
+
+def take_out(page, name="0.0"):
+    page.push(say("collect.drop", name=name))
+    page.wait_text(say("collect.dropped", name=name))
+
+
+def check_typo(page, see):
+    """A typo after which the letters complete another word takes no other field. The word is marked, and all that follow stand in their fields."""
+    words = SOUND_PAPER.split()
+    begin(page, "check")
+    for key in (" ", "Enter", "Tab"):
+        for typo, stays in list(TYPOS.items())[: None if key == " " else 1]:
+            page.go_to("textbox", say("entry.word", number=1))
+            for at, word in enumerate([*words[:2], typo, *words[3:6]]):
+                page.type(word + (key if key == " " else ""))
+                if key != " ":
+                    page.press(key)
+            wanted = " ".join([*words[:2], stays, *words[3:6]])
+            if page.evaluate(FIELDS) != wanted or page.evaluate(MARKED) != "3":
+                raise Failed(f"after {typo!r} and {key!r}, the fields hold {page.evaluate(FIELDS)!r}, and not {wanted!r}; marked: {page.evaluate(MARKED)}")
+            if typo == "beling" and key == " ":
+                page.wait_text(say("entry.unknown", number=3))
+                see("a typo that completes another word")
+            page.push(say("entry.empty"))
+    # The last word of a paper, which was read when its first letters completed another word.
+    page.go_to("textbox", say("entry.word", number=1))
+    page.type(" ".join([*words[:19], "beling", ""]))
+    page.wait_text(said(11, first=20))
+    if page.evaluate(FIELDS) != " ".join([*words[:19], "beling"]):
+        raise Failed(f"after a typo in the last word, the fields hold {page.evaluate(FIELDS)!r}")
+    clear(page)
+
+
+def check_moves(page, see):
+    """A word is put in or taken out, and all that follow move: by keys, and by the buttons for the field that had the focus last."""
+    words = SOUND_PAPER.split()
+    begin(page, "check")
+    for is_by_key in (True, False):
+        page.go_to("textbox", say("entry.word", number=1))
+        page.type(" ".join([*words[:4], *words[5:], ""]))
+        page.go_to("textbox", say("entry.word", number=5))
+        if is_by_key:
+            page.press_with("Control", "Enter")
+        else:
+            page.click(say("entry.put", number=5))
+        page.wait(lambda: page.evaluate(FIELDS).split() == words[:4] + words[5:], "the words that moved on")
+        if not page.has_focus(page.node("textbox", say("entry.word", number=5))) or page.evaluate("document.activeElement.value"):
+            raise Failed("after a word was put in, its field is filled, or hasn't the focus")
+        see("a word that is put in")
+        page.type(words[4] + " ")
+        page.wait_text(say("collect.taken", name="0.0"))
+        take_out(page)
+        page.go_to("textbox", say("entry.word", number=1))
+        page.type(" ".join([*words[:4], "zero", *words[4:18], ""]))
+        page.go_to("textbox", say("entry.word", number=5))
+        if is_by_key:
+            page.press_with("Control", "Delete")
+        else:
+            page.click(say("entry.take", number=5))
+        page.wait(lambda: page.evaluate(FIELDS).split() == words[:18], "the words that moved back")
+        page.go_to("textbox", say("entry.word", number=19))
+        page.type(" ".join([*words[18:], ""]))
+        page.wait_text(say("collect.taken", name="0.0"))
+        take_out(page)
+    # If all fields are full, one more comes, and goes with the next word that is taken out. Then the paper is read.
+    paste(page, " ".join([*words[:4], "zero", *words[4:6], *words[7:]]))
+    page.wait_text(said(13))
+    page.go_to("textbox", say("entry.word", number=8))
+    page.press_with("Control", "Enter")
+    page.type(words[6] + " ")
+    page.go_to("textbox", say("entry.word", number=5))
+    page.press_with("Control", "Delete")
+    page.wait_text(say("collect.taken", name="0.0"))
+    if page.evaluate(COUNTED) != "true 20":
+        raise Failed(f"a field that was put in stays: {page.evaluate(COUNTED)}")
+    clear(page)
+
+
+def check_beyond(page, see):
+    """A paper of 33 words that is typed into 20 fields is told, and read as a whole. The number of words leaves the focus in the fields."""
+    words = LONG.split()
+    for key in (" ", "Tab"):
+        begin(page, "check")
+        for word in words:
+            page.type(word + (key if key == " " else ""))
+            if key != " ":
+                page.press(key)
+            if word is words[20]:
+                page.wait_text(say("entry.beyond", few=20, many=33))
+                see("more words than fields")
+        page.wait_text(say("collect.taken", name=name_of(LONG)))
+        clear(page)
+    begin(page, "check")
+    page.type(" ".join(words[:5]) + " ")
+    page.push(say("entry.words", count=33))
+    page.type(" ".join(words[5:]) + " ")
+    page.wait_text(say("collect.taken", name=name_of(LONG)))
+    clear(page)
+
+
+def check_bip39(page, see):
+    """Words of BIP-39 that are typed by hand are named, from some words on, and for good when their number is known."""
+    begin(page, "check")
+    for line in (BIP39, BIP39_LONG):
+        words = line.split()
+        page.go_to("textbox", say("entry.word", number=1))
+        page.type(" ".join([*words[:6], ""]))
+        page.wait_text(say("entry.other_list"))
+        if page.evaluate("[...document.querySelectorAll('.offers')].some((it) => it.checkVisibility())"):
+            raise Failed("words of SLIP-0039 are offered in place of those of BIP-39")
+        see("words of BIP-39 that are typed by hand")
+        page.type(" ".join([*words[6:], ""]))
+        page.push(say("entry.read"))
+        page.wait_text(say("entry.bip39", count=len(words)))
+        page.push(say("entry.empty"))
+        page.push(say("entry.words", count=20))
+    clear(page)
+
+
+def table(line, columns):
+    """Returns the words of a paper as a table, each with its number. They run down the columns."""
+    words = [f"{number}. {word}" for number, word in enumerate(line.split(), 1)]
+    rows = -(-len(words) // columns)
+    return "\n".join("\t".join(words[row::rows]) for row in range(rows))
+
+
+def check_pasted(page, see):
+    """Tables with numbers and several papers in one text are read. Where one paper is wanted, several are named."""
+    begin(page, "check")
+    for text in (table(TWO[0], 2), table(TWO[0], 3), table(TWO[0], 4).upper()):
+        paste(page, text)
+        page.wait_text(say("collect.taken", name=name_of(TWO[0])))
+        take_out(page, name_of(TWO[0]))
+    headed = "\n".join(f"SLIP-0039  Paper {name_of(line)}\n{table(line, 2)}" for line in TWO)
+    beside = "\n".join("   ".join(rows) for rows in zip(table(TWO[0], 1).split("\n"), table(TWO[1], 1).split("\n")))
+    for text in ("\n".join(TWO), " ".join(TWO), "\n\n".join(line.replace(" ", "\n") for line in TWO), headed, beside):
+        paste(page, text)
+        page.wait_text(say("collect.taken", name=name_of(TWO[1])), say("status.enough.check"))
+        for line in TWO:
+            take_out(page, name_of(line))
+    paste(page, "\n".join([TWO[0], BAD_CHECKSUM, TWO[1]]))
+    page.wait_text(said(18, first=20), say("entry.left", papers=counted(1, "paper")))
+    see("several papers that were pasted")
+    page.push(say("entry.empty"))
+    clear(page)
+    begin(page, "what")
+    paste(page, "\n".join(TWO))
+    page.wait_text(say("entry.several_papers", count=2))
     clear(page)
 
 
@@ -349,4 +506,4 @@ def check_known_count(page, see):
     clear(page, say("clear.repaired"))
 
 
-CHECKS = [check_unread, check_keys, check_next_screen, check_once, check_after_button, check_offers, check_habits, check_guessed, check_mistyped, check_kept, check_open, check_damaged, check_known_count]
+CHECKS = [check_unread, check_keys, check_next_screen, check_once, check_after_button, check_offers, check_habits, check_guessed, check_mistyped, check_typo, check_moves, check_beyond, check_bip39, check_pasted, check_kept, check_open, check_damaged, check_known_count]

@@ -11,7 +11,7 @@ from tool import waited
 PATIENCE = 60
 TABS_MAX = 150
 DATE = re.compile(rb"D:\d{14}[^)]*")
-KEYS = {"Tab": "\ue004", "Enter": "\ue007", "Backspace": "\ue003", "Space": " ", "Right": "\ue014", "Down": "\ue015", "Control": "\ue009", "Shift": "\ue008"}
+KEYS = {"Tab": "\ue004", "Enter": "\ue007", "Backspace": "\ue003", "Space": " ", "Right": "\ue014", "Down": "\ue015", "Delete": "\ue017", "Control": "\ue009", "Shift": "\ue008"}
 
 
 class Page:
@@ -93,14 +93,18 @@ class Page:
         if to:
             self.wait_title(to)
 
-    def double_click(self, name):
-        """Presses a button with the mouse, twice. Between the presses, what the first one calls for has time to come."""
+    def click(self, name, more=()):
+        """Presses a button with the mouse. Then it does what else is given."""
         press = [{"type": kind, "button": 0} for kind in ("pointerDown", "pointerUp")]
         node = self.node("button", name)
         self.is_true("(it) => { it.scrollIntoView({ block: 'nearest' }); return true; }", node)
         there = {"type": "pointerMove", "x": 0, "y": 0, "origin": {"type": "element", "element": {"sharedId": node}}}
-        actions = [there, *press, {"type": "pause", "duration": 250}, *press]
+        actions = [there, *press, *more]
         self.call("input.performActions", actions=[{"type": "pointer", "id": "mouse", "actions": actions}])
+
+    def double_click(self, name):
+        """Presses a button with the mouse, twice. Between the presses, what the first one calls for has time to come."""
+        self.click(name, [{"type": "pause", "duration": 250}, *({"type": kind, "button": 0} for kind in ("pointerDown", "pointerUp"))])
 
     def tick(self, name):
         """Ticks a box, unless it is ticked."""

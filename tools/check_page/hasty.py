@@ -79,12 +79,48 @@ def check_double_click(page, _):
     create(page)
     page.wait_title(say("paper.title", name="0.0"))
     page.wait(lambda: words_shown(page) == 20, "the words")
+    # What is pressed as soon as a screen comes was meant for the one before.
+    time.sleep(1)
     page.double_click(say("paper.written"))
     page.wait(lambda: page.title() != say("paper.title", name="0.0"), "the end of a paper")
     time.sleep(0.5)
     if page.title() != say("paper.title", name="0.1"):
         raise Failed(f"a double click skips a paper: {page.title()!r}")
     check_late_words(page)
+
+
+# Presses a button of the next screen as a mouse does, so many milliseconds after that has come.
+LATE = """
+{
+  const shown = document.querySelector('h1').textContent;
+  const timer = setInterval(() => {
+    if (document.querySelector('h1').textContent === shown) return;
+    clearInterval(timer);
+    setTimeout(() => {
+      [...document.querySelectorAll('main button')].find((it) => it.textContent === "%s").dispatchEvent(new MouseEvent('click', { detail: 1, bubbles: true }));
+      window.pressed = true;
+    }, %s);
+  });
+  window.pressed = false;
+}
+null
+"""
+
+
+def check_late_click(page, _):
+    """A click that comes when the last word of a paper has led to the next screen presses nothing there. A later one does."""
+    for wait, title in [(200, "damaged.check.title"), (1500, "damaged.title")]:
+        begin(page, "damaged")
+        paste(page, with_words(SOUND_PAPER, {6: "?"}))
+        page.push(say("damaged.write", name="0.0"))
+        page.push(say("paper.written"), to=say("back.title", name="0.0"))
+        page.evaluate(LATE % (say("damaged.another"), wait))
+        page.type(SOUND_PAPER + " ")
+        page.wait(lambda: page.evaluate("window.pressed"), "a click on the next screen")
+        time.sleep(0.5)
+        if page.title() != say(title):
+            raise Failed(f"a click {wait} milliseconds after a screen has come leads to {page.title()!r}")
+        clear(page, say("clear.repaired"))
 
 
 def check_late_words(page):
@@ -160,4 +196,4 @@ def check_late_answer(page, _):
     clear(page)
 
 
-CHECKS = [check_launch, check_double_click, check_stop, check_given, check_fault, check_late_answer]
+CHECKS = [check_launch, check_double_click, check_late_click, check_stop, check_given, check_fault, check_late_answer]

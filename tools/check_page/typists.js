@@ -13,6 +13,14 @@
   };
   const SHORT = { least, four: () => 4, whole: (word) => word.length };
   const isInTurn = way.startsWith("in turn");
+  const hasTypo = way.startsWith("typo");
+  // A word with a wrong letter, one too many, one too few, or 2 exchanged. It stands for no word of the list.
+  const mistyped = (word) => {
+    const [at, letter] = [below(word.length), "abcdefghijklmnopqrstuvwxyz"[below(26)]];
+    const [before, after] = [word.slice(0, at), word.slice(at)];
+    const typo = [before + letter + after.slice(1), before + letter + after, before + after.slice(1), before + after.slice(1, 2) + after.slice(0, 1) + after.slice(2)][below(4)];
+    return list.filter((it) => it.startsWith(typo)).length === 1 || typo === word ? mistyped(word) : typo;
+  };
   // What stood in the fields when a paper was read.
   let taken = null;
   const onPaper = async () => {
@@ -41,6 +49,7 @@
   const ENDS = ["space", "Enter", "Tab", "nothing"];
   const wayOf = (paper) => {
     if (way === "mixed") return [Object.keys(SHORT)[below(3)], ENDS[below(4)]];
+    if (hasTypo) return ["whole", way.split(", ")[1]];
     return isInTurn ? [paper % 2 ? "four" : "whole", "space"] : way.split(", ");
   };
   const typed = (word, paper) => {
@@ -59,12 +68,14 @@
     if (isInTurn && paper % 2) words[19] = list.find((word, at) => word.length === 5 && at >= below(list.length)) ?? "crowd";
     if (isInTurn && last[4]) words[0] = list.filter((word) => word.startsWith(last[4])).at(below(10)) ?? words[0];
     last = words[19].length === 5 ? words[19] : "";
-    for (const word of words) typed(word, paper);
+    const wrong = hasTypo ? below(20) : -1;
+    words.forEach((word, at) => typed(at === wrong ? mistyped(word) : word, paper));
     // The answer to a paper comes after what called for it.
     if (isInTurn) await new Promise((resolve) => setTimeout(resolve));
     const came = taken ?? shown();
     // The field after the last word may hold letters of it.
-    const isRight = words.every((word, at) => came[at] === word);
+    const isToLookAt = (at) => entry.element.querySelectorAll(".word")[at].matches(".wrong, .doubt");
+    const isRight = words.every((word, at) => came[at] === word || (at === wrong && isToLookAt(at)));
     const isMarked = entry.element.querySelector(".word.wrong, .word.doubt, .answer.fault") !== null;
     // A field that is empty, or whose letters are no word, is named when the paper is read.
     const isTold = isMarked || came.slice(0, 20).some((word) => !list.includes(word));

@@ -3,7 +3,8 @@
     python3 tools/check_page/typists.py [--papers N] [--browser NAME] [--page FILE] [WAY..]    500 papers in each way, if N isn't given
 
 A paper that isn't as it was typed is told if the page marks a word, or if a field has no word of the list, so that the owner sees it. If nothing but
-the checksum would show it, it goes wrong silently, and the check fails.
+the checksum would show it, it goes wrong silently, and the check fails. A paper with a typo in one word is right if that word is marked, and all
+others stand in their fields.
 """
 import argparse
 import json
@@ -21,8 +22,9 @@ import plain  # noqa: E402
 
 SCRIPT = (pathlib.Path(__file__).resolve().parent / "typists.js").read_text()
 # How much of each word is typed, and what follows it. In turn, one paper is typed whole, and of the next one four letters of each word. In the
-# last one, both change from word to word.
-WAYS = [f"{short}, {end}" for short in ("least", "four", "whole") for end in ("nothing", "space", "Enter", "Tab")] + ["in turn, space", "mixed"]
+# last one, both change from word to word. With a typo, words are typed whole, and one of them isn't as it should be.
+ENDS = ["space", "Enter", "Tab"]
+WAYS = [f"{short}, {end}" for short in ("least", "four", "whole") for end in ("nothing", *ENDS)] + [f"typo, {end}" for end in ENDS] + ["in turn, space", "mixed"]
 # With a key after each word, all papers must be right.
 SURE = [way for way in WAYS if way.endswith((", space", ", Enter", ", Tab"))]
 PAPERS = 500

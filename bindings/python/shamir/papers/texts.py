@@ -147,7 +147,6 @@ OWN: Dict[str, str] = {
     "entry.count.between": "Typed: {count}. Most papers have {few} or {many} words, so {excess}, or {missing}.",
     "entry.count.beyond": "Typed: {count}. Most papers have {few} or {many} words, so {excess}, or several papers were typed as one.",
     "entry.count.over": "Typed: {count}. Each paper of this backup has {words}, so {excess}: perhaps a word was typed twice, or 2 papers were typed as one.",
-    "entry.other_list": "Many of these words aren't in the list of SLIP-0039. If your backup has 12 or 24 words, it is probably a BIP-39 backup, which is another standard. This program doesn't convert it.",
     "entry.compare": "Compare them with your paper. If they aren't its words, type {sign} alone, and begin this paper again.",
     "entry.on.many": "{typed} Word {number} and on (a number alone: take that word out; {sign} alone: begin this paper again):",
     "entry.over": "The number of a word that is too many ({sign} alone: begin this paper again):",
