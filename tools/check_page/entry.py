@@ -175,7 +175,7 @@ def check_mistyped(page, see):
 FIELDS = "[...document.querySelectorAll('.word:not([hidden]) input')].map((it) => it.value).join(' ').trim()"
 MARKED = "[...document.querySelectorAll('.word')].map((it, at) => it.matches('.doubt, .wrong') ? at + 1 : '').join(' ').trim()"
 # What is typed in place of word 3, and what stands there then. The first letters of each typo make another word, and the others can make one more.
-TYPOS = {"beling": "beling", "belixq": "belixq", "acadenic": "academic", "acadmic": "academic", "distsnce": "distance", "trafvic": "traffic"}
+TYPOS = {"beling": "beling", "belixq": "believe", "acadenic": "academic", "acadmic": "academic", "distsnce": "distance", "trafvic": "traffic"}
 
 
 def take_out(page, name="0.0"):

@@ -79,6 +79,8 @@ def check_double_click(page, _):
     create(page)
     page.wait_title(say("paper.title", name="0.0"))
     page.wait(lambda: words_shown(page) == 20, "the words")
+    # The next screen isn't scrolled, so the button stands at the same place only if this one isn't either.
+    page.size(1200, 900)
     # What is pressed as soon as a screen comes was meant for the one before.
     time.sleep(1)
     page.double_click(say("paper.written"))
