@@ -194,7 +194,15 @@ pub fn run_of<R: Read + Drop, W: Write + Drop>(letter: u8, input: R, output: W) 
     let mut output = Counting::new(output);
     match letter {
         b'S' => run_show(&mut input, &mut output).is_ok(),
-        b'R' => run_recover(SecretForm::Digits, None, b"TREZOR", &mut input, &mut output).is_ok(),
+        b'R' => run_recover(
+            SecretForm::Digits,
+            None,
+            b"TREZOR",
+            &mut input,
+            &mut output,
+            &mut (),
+        )
+        .is_ok(),
         b'C' => create_one(&mut input, &mut output).is_ok(),
         b'D' => run_drill(
             SecretForm::Digits,
@@ -203,6 +211,7 @@ pub fn run_of<R: Read + Drop, W: Write + Drop>(letter: u8, input: R, output: W) 
             1000,
             &mut input,
             &mut output,
+            &mut (),
         )
         .is_ok(),
         b'T' => run_status(&mut input, &mut output).is_ok(),

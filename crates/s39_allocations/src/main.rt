@@ -12,7 +12,7 @@ mod examples;
 
 use crate::arrays::{OneFile, Sheet, Source};
 use crate::examples::{Example, RANDOM, example_of, run_of};
-use s39_cli::{Destination, Messages, Terminals, Unwatched, program};
+use s39_cli::{Person, Terminals, program};
 use std::alloc::Global;
 use std::io;
 use std::io::Read;
@@ -20,9 +20,9 @@ use std::process::ExitCode;
 
 /// No device is a terminal.
 const NO_TERMINAL: Terminals = Terminals {
-    source: s39_cli::Source::Elsewhere,
-    destination: Destination::Elsewhere,
-    errors: Destination::Elsewhere,
+    input: false,
+    output: false,
+    errors: false,
 };
 
 /// How an example ended.
@@ -47,9 +47,7 @@ fn ending_of(alloc: Global, example: &Example) -> Ending {
         example.words,
         &mut input,
         &mut output,
-        &mut Messages::new(&mut errors),
-        &mut Unwatched,
-        NO_TERMINAL,
+        &mut Person::new(&mut errors, NO_TERMINAL),
     )
     .status();
     let has_no_memory = errors.as_slice() == b"shamir: out of memory\n".as_slice()

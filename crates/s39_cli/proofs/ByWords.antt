@@ -1,5 +1,5 @@
 -- What the program gives by any words whose values stand in them, from how it ends.
-use Rattle.std.proofs.Common.{◌≡◌, ◌≢◌, ◌⊎◌, ◌∙◌, ℕ, suc, Bor, List, [], Option, Some, None, ap, arith, inl, inr, refl, subst, sym, true}
+use Rattle.std.proofs.Common.{◌≡◌, ◌≢◌, ◌⊎◌, ◌∙◌, ℕ, Bool, suc, Bor, List, [], Option, Some, None, ap, arith, inl, inr, refl, subst, sym, true}
 use Rattle.std.specs.Io.KnownBytes.{Appends}
 use Rattle.clap.specs.Words.{Text, takes}
 use Rattle.s39_input.specs.Input.{Input, whole}
@@ -14,8 +14,6 @@ use Rattle.s39_command.proofs.Faults.{one_fault}
 use Rattle.s39_command.proofs.OneCall.{one_call}
 use Rattle.s39_cli.specs.declared.runner.Ended.{Ended}
 use Rattle.s39_cli.specs.declared.runner.Ended.TheVariants.{With, NoMemory}
-use Rattle.s39_cli.specs.declared.runner.Source.{Source}
-use Rattle.s39_cli.specs.declared.runner.Source.TheVariants.{Elsewhere}
 use Rattle.s39_cli.specs.Ending.{AreAllOf, AwaitsRandom, Delivers, DeliversDrawn, DoesDrawn, Ends, EndsAs, EndsAtOnce, IsDoneWith, IsOutcome, IsTyped, OnEnd, TakesCall}
 use Rattle.s39_cli.specs.Outcome.{HasNoCause, IsReady}
 use Rattle.s39_cli.specs.Values.{Told, text_of}
@@ -60,8 +58,8 @@ module _ (words : List Text) (named : Job) (given : Texts) (gives : GivesJob wor
   ready_too : IsReady named (text_of None given.secret) → IsReady j (text_of None g.secret)
   ready_too ready = subst (IsReady j) (ap or_empty there.given.secret) (same_ready named j there.values (text_of None given.secret) ready)
 
-  untyped_too : (source : Source) → (IsTyped source named → ⊥) → IsTyped source j → ⊥
-  untyped_too source untyped typed = untyped (same_typed source j named back.values typed)
+  untyped_too : (at_terminal : Bool) → (IsTyped at_terminal named → ⊥) → IsTyped at_terminal j → ⊥
+  untyped_too at_terminal untyped typed = untyped (same_typed at_terminal j named back.values typed)
 
   awaits_too : AwaitsRandom j → AwaitsRandom named
   awaits_too = same_await j named back.values
@@ -92,16 +90,16 @@ pub record IsPlain (told : Told) (named : Job) (given : Texts) : Type 0 where
   pub awaits_none : AwaitsRandom named → ⊥
   pub done_with : (x : Text) → IsDoneWith told named (text_of None given.secret) x → x ≡ text_of None given.secret
 
-module _ {R W : Type 0} (told : Told) (remaining : R → Option (List ℕ)) (contents : W → Option (List ℕ)) (source : Source) (words : List Text) (reader : R)
+module _ {R W : Type 0} (told : Told) (remaining : R → Option (List ℕ)) (contents : W → Option (List ℕ)) (at_terminal : Bool) (words : List Text) (reader : R)
     (writer : W) where
   -- a creation whose random bytes would be typed is refused, or else the job is done
   abbrev TakesJob : Job → Texts → ℕ → R → W → Type 0
-  TakesJob j given status read_to written_to = (IsTyped source j × EndsAtOnce 2 reader writer status read_to written_to)
-      ⊎ ((IsTyped source j → ⊥)
+  TakesJob j given status read_to written_to = (IsTyped at_terminal j × EndsAtOnce 2 reader writer status read_to written_to)
+      ⊎ ((IsTyped at_terminal j → ⊥)
       × DoesDrawn told remaining contents j (text_of None given.secret) (text_of None given.passphrase) reader writer status read_to written_to)
 
   takes_job : (j : Job) (given : Texts) (status : ℕ) (read_to : R) (written_to : W)
-      → TakesCall told remaining contents source (call_of j given) reader writer status read_to written_to
+      → TakesCall told remaining contents at_terminal (call_of j given) reader writer status read_to written_to
       → TakesJob j given status read_to written_to
   takes_job j given status read_to written_to (inl typed) = inl typed
   takes_job j given status read_to written_to (inr (inl lacks)) = absurd (lacks.1.0.0 (refl, refl))
@@ -116,25 +114,25 @@ module _ {R W : Type 0} (told : Told) (remaining : R → Option (List ℕ)) (con
   )
 
   module _ (named : Job) (given : Texts) (gives : GivesJob words named given) (taken : takes shamir_app words ≡ true) (status : ℕ) (read_to : R)
-      (written_to : W) (ends : EndsAs told remaining contents source words reader writer status read_to written_to) where
+      (written_to : W) (ends : EndsAs told remaining contents at_terminal words reader writer status read_to written_to) where
     -- the job that is done, which is the named one except for how its texts are lent
     job_of : (j : Job) × (g : Texts) × GivesJob words j g × TakesJob j g status read_to written_to
     job_of = go (ends.taken taken)
       where
         of_call : (j : Job) (g files : Texts) → files ≡ no_files → GivesCall words (record { job = j; given = g; files = files })
-            → TakesCall told remaining contents source (record { job = j; given = g; files = files }) reader writer status read_to written_to
+            → TakesCall told remaining contents at_terminal (record { job = j; given = g; files = files }) reader writer status read_to written_to
             → (k : Job) × (h : Texts) × GivesJob words k h × TakesJob k h status read_to written_to
         of_call j g files none has does = (
           j,
           g,
           subst (λ f. GivesCall words (record { job = j; given = g; files = f })) none has,
           takes_job j g status read_to written_to
-              (subst (λ f. TakesCall told remaining contents source (record { job = j; given = g; files = f }) reader writer status read_to written_to)
+              (subst (λ f. TakesCall told remaining contents at_terminal (record { job = j; given = g; files = f }) reader writer status read_to written_to)
               none does),
         )
 
         go : (((bad : BadValues) × GivesBadValues words bad) × EndsAtOnce 2 reader writer status read_to written_to)
-            ⊎ ((call : Call) × GivesCall words call × TakesCall told remaining contents source call reader writer status read_to written_to)
+            ⊎ ((call : Call) × GivesCall words call × TakesCall told remaining contents at_terminal call reader writer status read_to written_to)
             → (k : Job) × (h : Texts) × GivesJob words k h × TakesJob k h status read_to written_to
         go (inl bad) = absurd (one_fault.no_call words bad.0.0 (call_of named given) bad.0.1 gives)
         go (inr (call, has, does)) =
@@ -157,7 +155,7 @@ module _ {R W : Type 0} (told : Told) (remaining : R → Option (List ℕ)) (con
     failed j g has awaits ends = inl (awaits_too words named given gives j g has awaits, ends)
 
     -- a job that can be begun
-    ready : IsReady named (text_of None given.secret) → (IsTyped source named → ⊥) → Drawn
+    ready : IsReady named (text_of None given.secret) → (IsTyped at_terminal named → ⊥) → Drawn
     ready is_ready is_untyped = go job_of.0 job_of.1 job_of.2 job_of.3
       where
         causeless : (j : Job) (g : Texts) → GivesJob words j g → (x : Text) → IsDoneWith told j (text_of None g.secret) x → HasNoCause j x
@@ -165,7 +163,7 @@ module _ {R W : Type 0} (told : Told) (remaining : R → Option (List ℕ)) (con
             no_cause j x (ready_with told j (text_of None g.secret) x is (ready_too words named given gives j g has is_ready))
 
         go : (j : Job) (g : Texts) → GivesJob words j g → TakesJob j g status read_to written_to → Drawn
-        go j g has (inl typed) = absurd (untyped_too words named given gives j g has source is_untyped typed.0)
+        go j g has (inl typed) = absurd (untyped_too words named given gives j g has at_terminal is_untyped typed.0)
         go j g has (inr (untyped, inl unread)) = failed j g has unread.0 unread.1
         go j g has (inr (untyped, inr (x, is, inl bad))) = absurd ((causeless j g has x is).no_bad_secret bad.0)
         go j g has (inr (untyped, inr (x, is, inr (inl bad)))) = absurd ((causeless j g has x is).no_bad_plan bad.0.0 bad.0.1)
@@ -190,7 +188,7 @@ module _ {R W : Type 0} (told : Told) (remaining : R → Option (List ℕ)) (con
 
   -- what words write that give a job which can be begun
   pub run : (named : Job) (given : Texts) → takes shamir_app words ≡ true → GivesJob words named given → IsReady named (text_of None given.secret)
-      → (IsTyped source named → ⊥) → (ended : Ended R W) → Ends told remaining contents source words reader writer ended
+      → (IsTyped at_terminal named → ⊥) → (ended : Ended R W) → Ends told remaining contents at_terminal words reader writer ended
       → OnEnd ended (DeliversDrawn told remaining contents named (text_of None given.secret) (text_of None given.passphrase) reader writer)
   run named given taken gives is_ready untyped NoMemory ends = tt
   run named given taken gives is_ready untyped (With status read_to written_to) ends =
@@ -205,14 +203,14 @@ module _ {R W : Type 0} (told : Told) (remaining : R → Option (List ℕ)) (con
       (plain.done_with x is) delivers
 
   pub done_plainly : (named : Job) (given : Texts) → IsPlain told named given → GivesJob words named given → takes shamir_app words ≡ true → (status : ℕ)
-      (read_to : R) (written_to : W) → EndsAs told remaining contents source words reader writer status read_to written_to → status ≡ 0
+      (read_to : R) (written_to : W) → EndsAs told remaining contents at_terminal words reader writer status read_to written_to → status ≡ 0
       → Delivers remaining contents (Writes named given) reader writer status read_to written_to
   done_plainly named given plain gives taken status read_to written_to ends none =
       plainly named given plain status read_to written_to (done named given gives taken status read_to written_to ends none)
 
   pub run_plainly : (named : Job) (given : Texts) → IsPlain told named given → takes shamir_app words ≡ true → GivesJob words named given
-      → IsReady named (text_of None given.secret) → (IsTyped source named → ⊥) → (ended : Ended R W)
-      → Ends told remaining contents source words reader writer ended
+      → IsReady named (text_of None given.secret) → (IsTyped at_terminal named → ⊥) → (ended : Ended R W)
+      → Ends told remaining contents at_terminal words reader writer ended
       → OnEnd ended (Delivers remaining contents (Writes named given) reader writer)
   run_plainly named given plain taken gives is_ready untyped NoMemory ends = tt
   run_plainly named given plain taken gives is_ready untyped (With status read_to written_to) ends =
@@ -220,23 +218,23 @@ module _ {R W : Type 0} (told : Told) (remaining : R → Option (List ℕ)) (con
 
 -- a creation that is done, and what is known of the outcome of another job, whose input is what the creation wrote
 pub created_then : {R V W : Type 0} (told : Told) (remaining : R → Option (List ℕ)) (held : V → Option (List ℕ)) (contents : W → Option (List ℕ))
-    (words : List Text) (creation : Job) (given : Texts) (Other : Input → List ℕ → ℕ → Type 0) (random random_left : R) (empty filled : V) (output : W)
+    (at_terminal : Bool) (words : List Text) (creation : Job) (given : Texts) (Other : Input → List ℕ → ℕ → Type 0) (random random_left : R) (empty filled : V) (output : W)
     (status : ℕ) (text : List ℕ) (Known : List ℕ → ℕ → Type 0)
     → ((bytes line : List ℕ) (number : ℕ) → Writes creation given (whole bytes) text 0 → Other (whole text) line number → Known line number)
     → IsPlain told creation given → takes shamir_app words ≡ true → GivesJob words creation given
-    → EndsAs told remaining held Elsewhere words random empty status random_left filled
+    → EndsAs told remaining held at_terminal words random empty status random_left filled
     → status ≡ 0 → held empty ≡ Some [] → held filled ≡ Some text → (ended : Ended V W)
     → OnEnd ended (Delivers held contents Other filled output)
     → OnEnd ended (λ number read_to written_to. number ≢ 3
     → (line : List ℕ) × Known line number × Appends (contents output) (contents written_to) line)
-created_then told remaining held contents words creation given Other random random_left empty filled output status text Known known plain
+created_then told remaining held contents at_terminal words creation given Other random random_left empty filled output status text Known known plain
     taken gives created none
     is_empty is_filled NoMemory delivers = tt
-created_then told remaining held contents words creation given Other random random_left empty filled output status text Known known plain
+created_then told remaining held contents at_terminal words creation given Other random random_left empty filled output status text Known known plain
     taken gives created none
     is_empty is_filled (With number read_to written_to) delivers = λ no_device. (
-    let done_is = subst (λ (n : ℕ). EndsAs told remaining held Elsewhere words random empty n random_left filled) none created in
-    let wrote = (done_plainly told remaining held Elsewhere words random empty creation given plain gives taken 0 random_left filled done_is refl).done
+    let done_is = subst (λ (n : ℕ). EndsAs told remaining held at_terminal words random empty n random_left filled) none created in
+    let wrote = (done_plainly told remaining held at_terminal words random empty creation given plain gives taken 0 random_left filled done_is refl).done
     (λ three. not_zero 0 2 refl three) in
     let same : Appends (Some []) (Some text) wrote.2.0 = subst (λ (a : Option (List ℕ)). Appends a (Some text) wrote.2.0) is_empty
     (subst (λ (b : Option (List ℕ)). Appends (held empty) b wrote.2.0) is_filled wrote.2.2) in

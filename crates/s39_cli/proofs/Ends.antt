@@ -1,5 +1,5 @@
 -- How the program ends, from how its parts do.
-use Rattle.std.proofs.Common.{◌≡◌, ◌⊎◌, ◌∙◌, ⊎_elim, ℕ, Bor, List, [], Option, Some, None, Err, string_bytes, take, true, true≢false, inl, inr, refl, subst, sym}
+use Rattle.std.proofs.Common.{◌≡◌, ◌⊎◌, ◌∙◌, ⊎_elim, ℕ, Bool, Bor, List, [], Option, Some, None, Err, string_bytes, take, true, true≢false, inl, inr, refl, subst, sym}
 use Rattle.clap.specs.Words.{Text, fault_of, takes}
 use Rattle.s39_command.specs.declared.command.BadValues.{BadValues}
 use Rattle.s39_command.specs.declared.command.Call.{Call}
@@ -11,7 +11,6 @@ use Rattle.s39_command.specs.declared.command.NoJob.{NoJob}
 use Rattle.s39_command.specs.declared.command.NoJob.TheVariants.{Help, Refused, Values, Memory}
 use Rattle.s39_cli.specs.declared.runner.Ended.{Ended}
 use Rattle.s39_cli.specs.declared.runner.Ended.TheVariants.{With, NoMemory}
-use Rattle.s39_cli.specs.declared.runner.Source.{Source}
 use Rattle.s39_cli.specs.declared.work.Work.{Work}
 use Rattle.s39_command.specs.Command.{AnswersWords, GivesCall, shamir_app}
 use Rattle.s39_cli.specs.Ending.{Delivers, DoesDrawn, DoesJob, EndsAtOnce, IsDoneWith, Ends, EndsAs, EndsUnread, EndsWithoutJob, HasStatus, IsTyped, OnEnd, TakesCall}
@@ -55,13 +54,13 @@ module _ {R W : Type 0} (told : Told) (remaining : R → Option (List ℕ)) (con
           inr (inl ((error, subst (λ (j : Job). HasBadPlan j random error) (sym is) refused), ends)),
         )
 
-module _ {R W : Type 0} (told : Told) (remaining : R → Option (List ℕ)) (contents : W → Option (List ℕ)) (source : Source) (words : List Text)
+module _ {R W : Type 0} (told : Told) (remaining : R → Option (List ℕ)) (contents : W → Option (List ℕ)) (at_terminal : Bool) (words : List Text)
     (reader : R) (writer : W) where
   -- words that give no job
   pub ends_without_job : (no_job : NoJob) (ended : Ended R W) → AnswersWords no_job words
       → (takes shamir_app words ≡ true → (no_job ≡ Memory) ⊎ ((bad : BadValues) × (no_job ≡ Values bad)))
-      → EndsWithoutJob contents no_job reader writer ended → Ends told remaining contents source words reader writer ended
-  ends_without_job Memory ended answers wanting none = subst (Ends told remaining contents source words reader writer) (sym none) tt
+      → EndsWithoutJob contents no_job reader writer ended → Ends told remaining contents at_terminal words reader writer ended
+  ends_without_job Memory ended answers wanting none = subst (Ends told remaining contents at_terminal words reader writer) (sym none) tt
   ends_without_job no_job NoMemory answers wanting ends = tt
   ends_without_job (Help text) (With status read_to written_to) answers wanting ends = record {
     asked = λ _. (string_bytes text, ends);
@@ -80,22 +79,22 @@ module _ {R W : Type 0} (told : Told) (remaining : R → Option (List ℕ)) (con
   }
 
   module _ (call : Call) (gives : GivesCall words call) (taken : takes shamir_app words ≡ true) (faultless : fault_of shamir_app words ≡ []) where
-    pub ends_by_call : (status : ℕ) (read_to : R) (written_to : W) → TakesCall told remaining contents source call reader writer status read_to written_to
-        → EndsAs told remaining contents source words reader writer status read_to written_to
+    pub ends_by_call : (status : ℕ) (read_to : R) (written_to : W) → TakesCall told remaining contents at_terminal call reader writer status read_to written_to
+        → EndsAs told remaining contents at_terminal words reader writer status read_to written_to
     ends_by_call status read_to written_to does = record {
       asked = λ asks. absurd (asks_none words faultless asks);
       refused = λ refused _. absurd (true≢false (sym taken ∙ refused));
       taken = λ _. inr (call, gives, does);
     }
 
-    pub ends_typed : (ended : Ended R W) → IsTyped source call.job → ended ≡ With 2 reader writer
-        → Ends told remaining contents source words reader writer ended
+    pub ends_typed : (ended : Ended R W) → IsTyped at_terminal call.job → ended ≡ With 2 reader writer
+        → Ends told remaining contents at_terminal words reader writer ended
     ends_typed ended typed same =
-        subst (Ends told remaining contents source words reader writer) (sym same) (ends_by_call 2 reader writer (inl (typed, (refl, refl, refl))))
+        subst (Ends told remaining contents at_terminal words reader writer) (sym same) (ends_by_call 2 reader writer (inl (typed, (refl, refl, refl))))
 
-    pub ends_unread : (behind : R) (ended : Ended R W) (P : Type 0) → (IsTyped source call.job → ⊥) → LacksValue call.files reader behind
+    pub ends_unread : (behind : R) (ended : Ended R W) (P : Type 0) → (IsTyped at_terminal call.job → ⊥) → LacksValue call.files reader behind
         → (P → HasLong told remaining call.files reader) → EndsUnread P behind writer ended
-        → Ends told remaining contents source words reader writer ended
+        → Ends told remaining contents at_terminal words reader writer ended
     ends_unread behind NoMemory P untyped lacks long ends = tt
     ends_unread behind (With status read_to written_to) P untyped lacks long ends =
         ends_by_call status read_to written_to (inr (inl (
@@ -106,10 +105,10 @@ module _ {R W : Type 0} (told : Told) (remaining : R → Option (List ℕ)) (con
           ),
         )))
 
-    pub ends_by_job : (secret passphrase : Option (List ℕ)) (s p : Text) (behind : R) (ended : Ended R W) → (IsTyped source call.job → ⊥)
+    pub ends_by_job : (secret passphrase : Option (List ℕ)) (s p : Text) (behind : R) (ended : Ended R W) → (IsTyped at_terminal call.job → ⊥)
         → TakesValues told remaining call.files secret passphrase reader behind → s ≡ text_of secret call.given.secret
         → p ≡ text_of passphrase call.given.passphrase → OnEnd ended (DoesDrawn told remaining contents call.job s p behind writer)
-        → Ends told remaining contents source words reader writer ended
+        → Ends told remaining contents at_terminal words reader writer ended
     ends_by_job secret passphrase s p behind NoMemory untyped takes same_s same_p does = tt
     ends_by_job secret passphrase s p behind (With status read_to written_to) untyped takes same_s same_p does =
         ends_by_call status read_to written_to (inr (inr (

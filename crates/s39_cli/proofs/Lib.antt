@@ -12,8 +12,6 @@ pub mod Repairs
 pub mod Said
 pub mod SaidByRuns
 pub mod SaidOfWords
-pub mod SeenByRuns
-pub mod SeenOfWords
 pub mod HowFar
 pub mod SameValues
 pub mod SomeOutcomes

@@ -14,7 +14,6 @@ use Rattle.s39_command.specs.Command.{AsksForText, AreSameCalls, AreSameTexts, H
 use Rattle.s39_command.specs.Jobs.{or_empty}
 use Rattle.s39_command.proofs.Faults.{one_fault}
 use Rattle.s39_command.proofs.OneCall.{one_call, said_same}
-use Rattle.s39_cli.specs.declared.runner.Source.{Source}
 use Rattle.s39_cli.specs.declared.values.Until.{Until}
 use Rattle.s39_cli.specs.declared.values.Until.TheVariants.{End, LineEnd}
 use Rattle.s39_cli.specs.Ending.{AreAllOf, Delivers, DoesDrawn, DoesJob, EndsAs, EndsAtOnce, IsDoneWith, IsOutcome, IsTyped, TakesCall}
@@ -117,9 +116,9 @@ module _ {R : Type 0} (files : Text → List ℕ) (remaining : R → Option (Lis
 
 -- ---- whether a job can be begun
 
-same_typed : (source : Source) (j k : Job) → HaveSameValues j k → IsTyped source j → IsTyped source k
-same_typed source (job.Create plan e x) k (p, same, plans) typed = subst (IsTyped source) (sym same) typed
-same_typed source _ k same typed = absurd typed
+same_typed : (at_terminal : Bool) (j k : Job) → HaveSameValues j k → IsTyped at_terminal j → IsTyped at_terminal k
+same_typed at_terminal (job.Create plan e x) k (p, same, plans) typed = subst (IsTyped at_terminal) (sym same) typed
+same_typed at_terminal _ k same typed = absurd typed
 
 same_ready : (j k : Job) (s : Text) → HaveSameValues j k → IsReady j s → IsReady k s
 same_ready job.Show k s same ready = subst (λ (other : Job). IsReady other s) (sym same) ready
@@ -274,19 +273,19 @@ module _ {R W : Type 0} (files : Text → List ℕ) (remaining : R → Option (L
   same_text v w a b read given =
       ap (λ (o : Option (List ℕ)). unwrap_or o (or_empty (text_in a))) read ∙ ap (λ (o : Option Text). unwrap_or w (or_empty o)) given
 
-  module _ (source : Source) (held kept : List ℕ) (reader first : R) (writer output : W) (alike : AreAlike files remaining reader first)
+  module _ (at_terminal : Bool) (held kept : List ℕ) (reader first : R) (writer output : W) (alike : AreAlike files remaining reader first)
       (held_is : contents writer ≡ Some held) (kept_is : contents output ≡ Some kept) (status another : ℕ) (sound : status ≢ 3) (well : another ≢ 3)
       (read_to last : R) (written_to given_to : W) where
     one_end : (call other : Call) → AreSameCalls call other → AreSameCalls other call
-        → TakesCall (telling files) remaining contents source call reader writer status read_to written_to
-        → TakesCall (telling files) remaining contents source other first output another last given_to
+        → TakesCall (telling files) remaining contents at_terminal call reader writer status read_to written_to
+        → TakesCall (telling files) remaining contents at_terminal other first output another last given_to
         → IsOne held kept status written_to another given_to
     one_end call other same back (inl typed) (inl also) =
         at_once held kept reader first writer output held_is kept_is status another read_to last written_to given_to 2 typed.1 also.1
-    one_end call other same back (inl typed) (inr (inl also)) = absurd (also.0 (same_typed source call.job other.job same.values typed.0))
-    one_end call other same back (inl typed) (inr (inr also)) = absurd (also.0 (same_typed source call.job other.job same.values typed.0))
-    one_end call other same back (inr (inl also)) (inl typed) = absurd (also.0 (same_typed source other.job call.job back.values typed.0))
-    one_end call other same back (inr (inr also)) (inl typed) = absurd (also.0 (same_typed source other.job call.job back.values typed.0))
+    one_end call other same back (inl typed) (inr (inl also)) = absurd (also.0 (same_typed at_terminal call.job other.job same.values typed.0))
+    one_end call other same back (inl typed) (inr (inr also)) = absurd (also.0 (same_typed at_terminal call.job other.job same.values typed.0))
+    one_end call other same back (inr (inl also)) (inl typed) = absurd (also.0 (same_typed at_terminal other.job call.job back.values typed.0))
+    one_end call other same back (inr (inr also)) (inl typed) = absurd (also.0 (same_typed at_terminal other.job call.job back.values typed.0))
     one_end call other same back (inr (inl (untyped, (lacks, (inr failed, kept_as))))) also = absurd (sound failed)
     one_end call other same back also (inr (inl (untyped, (lacks, (inr failed, kept_as))))) = absurd (well failed)
     one_end call other same back (inr (inl (untyped, (lacks, (inl long, kept_as))))) (inr (inl (unlike, (wants, (inl also, left_as))))) =
@@ -312,8 +311,8 @@ module _ {R W : Type 0} (files : Text → List ℕ) (remaining : R → Option (L
         does'
 
     one_end_of_words : (words : List Text) → (AsksForText words → ⊥)
-        → EndsAs (telling files) remaining contents source words reader writer status read_to written_to
-        → EndsAs (telling files) remaining contents source words first output another last given_to
+        → EndsAs (telling files) remaining contents at_terminal words reader writer status read_to written_to
+        → EndsAs (telling files) remaining contents at_terminal words first output another last given_to
         → IsOne held kept status written_to another given_to
     one_end_of_words words unasked ends also = by (takes shamir_app words) refl
       where
@@ -334,14 +333,14 @@ module _ {R W : Type 0} (files : Text → List ℕ) (remaining : R → Option (L
         ]
 
 pub one_ending : {R W : Type 0} (remaining : R → Option (List ℕ)) (contents : W → Option (List ℕ)) → OneOutcome → OneEnding remaining contents
-one_ending remaining contents once files source words input output other status another unasked is also =
-    let one = one_end_of_words files remaining contents once source is.held also.held is.reader also.reader is.writer also.writer
+one_ending remaining contents once files at_terminal words input output other status another unasked is also =
+    let one = one_end_of_words files remaining contents once at_terminal is.held also.held is.reader also.reader is.writer also.writer
     (input, is.input_is, also.input_is) is.held_is also.held_is status another is.sound also.sound is.read_to also.read_to is.written_to
     also.written_to words unasked is.ends also.ends in
     (one.0, one.1 output other is.output_is also.output_is)
 
 pub some_ending : SomeEnding
-some_ending files source words j given secret input output status taken unasked gives untyped done_with ready outcome sound = record {
+some_ending files at_terminal words j given secret input output status taken unasked gives untyped done_with ready outcome sound = record {
   reader = input;
   writer = [];
   read_to = [];

@@ -1,126 +1,181 @@
--- What is said beside the answer of a run.
-use Rattle.std.proofs.Common.{◌≡◌, ◌∙◌, ◌++◌, ℕ, Bool, arith, inl, inr, true, false, List, [], Option, Some, None, Result, Ok, Err, ap, append-nil, refl, subst, sym}
-use Rattle.std.proofs.KnownBytes.{Appends-nil}
+-- What a work says itself, by its run.
+use Rattle.std.proofs.Common.{◌≡◌, ◌≢◌, ◌⊎◌, ◌+◌, ℕ, Bool, IfErr, IfOk, arith, inl, inr, List, [], Option, Some, None, Result, Ok, Err, ap, refl, length, subst, sym}
 use Rattle.clap.specs.Words.{Text}
 use Rattle.s39_words.specs.declared.ShareFields.{ShareFields}
-use Rattle.s39_input.specs.declared.fault.DeviceFailure.TheVariants.{Write}
+use Rattle.s39_set.specs.Listing.{IsListing}
+use Rattle.s39_set.specs.Names.{Names}
+use Rattle.s39_input.specs.declared.fault.DeviceFailure.TheVariants.{Read, Write}
 use Rattle.s39_input.specs.declared.fault.Fault.{Fault}
+use Rattle.s39_input.specs.declared.fault.Refusal.{Refusal}
 use Rattle.s39_input.specs.declared.fault.Refusal.TheVariants.{Device}
-use Rattle.s39_input.specs.Accepted.{IsCheckedSet, read_as}
 use Rattle.s39_input.specs.Device.{Counted}
-use Rattle.s39_input.specs.Fault.{fault_of}
+use Rattle.s39_input.specs.Fault.{read_failures, write_failures_in}
 use Rattle.s39_input.specs.Input.{Input, whole}
 use Rattle.s39_input.specs.Runs.{OfInput}
-use Rattle.s39_input.specs.Steps.{gives, refuses}
-use Rattle.s39_cli.specs.declared.messages.Messages.{Messages}
+use Rattle.s39_input.proofs.Runs.Devices.{some_input as some_read}
+use Rattle.s39_drilling.specs.declared.drill.Done.{Done}
+use Rattle.s39_drilling.specs.Watching.{AreSeen, SeesAll, SeesFirst}
+use Rattle.s39_cli.specs.declared.person.Person.{Person}
+use Rattle.s39_cli.specs.declared.person.Terminals.{Terminals}
 use Rattle.s39_cli.specs.declared.work.Work.{Work}
+use Rattle.s39_cli.specs.declared.work.Drill.{Drill}
 use Rattle.s39_cli.specs.declared.work.Work.TheVariants as work
 use Rattle.s39_cli.specs.Ending.{IsFlushed}
-use Rattle.s39_cli.specs.Outcome.{judged}
-use Rattle.s39_cli.specs.Said.{IsAllOf, Says, SaysBeside, SaysOnceRead, bare_line, early_lines, line_if, read_lines, set_lines, tells_last, work_late_lines}
+use Rattle.s39_cli.specs.Outcome.{judged, status_of_refusal}
+use Rattle.s39_cli.specs.Said.{AreSomeWorkLines, AreWorkLines, IsAllOf, Says, SaysCount, SaysInRun, SaysOfNone, SaysSet}
+use Rattle.s39_cli.specs.Said.{drill_lines, is_attended, line_if, listed_lines, none_line, set_lines, shows_progress}
 use Rattle.s39_cli.proofs.Deliveries.{of_all}
-use Rattle.s39_cli.proofs.Said.{says_both}
-
--- nothing is before a text, whether it is left out or not
-nothing_before : (holds : Bool) (text : Text) → text ≡ line_if holds [] ++ text
-nothing_before true text = refl
-nothing_before false text = refl
-
--- what a work says itself, and then what is left to its caller, is what is said once its input is read
-both_lines : (w : Work) (attended tells : Bool) (input : Input)
-    → early_lines w attended tells input ++ line_if (tells_last w tells) bare_line ≡ work_late_lines w attended tells input
-both_lines work.Show attended tells input = nothing_before attended (line_if tells bare_line)
-both_lines (work.Create creation) attended tells input = nothing_before attended (line_if tells bare_line)
-both_lines (work.Recover passphrase form expected) attended tells input =
-    append-nil (line_if tells bare_line) ∙ nothing_before attended (line_if tells bare_line)
-both_lines (work.Drill drill) attended tells input = refl
-both_lines work.Status attended tells input = nothing_before attended (line_if tells bare_line)
-both_lines (work.Reissue reissue) attended tells input = nothing_before attended (line_if tells bare_line)
-both_lines work.Repair attended tells input = nothing_before attended (line_if tells bare_line)
-both_lines (work.Resplit resplit) attended tells input = nothing_before attended (line_if tells bare_line)
+use Rattle.s39_cli.proofs.HowFar.{told_listed}
+use Rattle.s39_cli.proofs.Said.{nothing_said, says_both}
 
 -- a reader has some input
 pub some_input : (told : Option (List ℕ)) → (input : Input) × IsAllOf told input
 some_input None = (whole [], ([], tt, refl))
 some_input (Some bytes) = (whole bytes, (bytes, refl, refl))
 
--- a set is what its input is read as
-pub read_of_checked : (passphrase : List ℕ) (input : Input) (set : List ShareFields) → IsCheckedSet passphrase input (Ok set) → read_as input ≡ Ok set
-read_of_checked passphrase input set (refuses bad first is) = absurd (cc)
-read_of_checked passphrase input set (gives _ printable (refuses stop read is)) = absurd (cc)
-read_of_checked passphrase input set (gives _ printable (gives other read is)) = let same : other ≡ set = cc in read ∙ ap Ok same
+-- a refusal is that a write failed, or another
+pub failed_or_not : (r : Refusal) → (r ≡ Device Write) ⊎ (r ≢ Device Write)
+failed_or_not (Device Write) = inl refl
+failed_or_not (Device Read) = inr (λ same. absurd (let zero : write_failures_in (Device Read) ≡ write_failures_in (Device Write) = ap write_failures_in same in omega (arith, zero)))
+failed_or_not r = inr (λ same. absurd (let zero : write_failures_in r ≡ write_failures_in (Device Write) = ap write_failures_in same in omega (arith, zero)))
 
-module _ {R E : Type 0} (remaining : R → Option (List ℕ)) (contents : E → Option (List ℕ)) (reader : R) where
-  -- nothing is said, and there is nothing to say
-  pub unsaid : {T : Type 0} (lines : Input → Text) (answer : Result T Fault) (old : Messages E) → ((input : Input) → lines input ≡ [])
-      → SaysOnceRead remaining contents lines reader answer old old
-  unsaid lines (Ok found) old none =
-      let (input, all) = some_input (remaining reader) in (
-        input,
-        all,
-        subst (Says contents old old) (sym (none input)) (λ is. (is, Appends-nil (contents old.device))),
-      )
-  unsaid lines (Err fault) old none = let (input, all) = some_input (remaining reader) in (input, all, (λ _. refl))
+-- what isn't written by a refusal, and what isn't told
+pub unmoved : {T : Type 0} (found : Result T Fault) (Kept Untold : Type 0) → IfErr found (λ fault. fault.refusal ≢ Device Write → Kept × Untold)
+    → IfErr found (λ fault. fault.refusal ≢ Device Write → Untold)
+unmoved (Ok t) Kept Untold both = both
+unmoved (Err fault) Kept Untold both = λ other. (both other).1
 
-  -- the same of a work that says nothing itself
-  pub unsaid_work : {T : Type 0} (w v : Work) (attended tells : Bool) (answer : Result T Fault) (old : Messages E) → w ≡ v
-      → ((input : Input) → early_lines v attended tells input ≡ [])
-      → SaysOnceRead remaining contents (early_lines w attended tells) reader answer old old
-  unsaid_work w v attended tells answer old same none =
-      unsaid (early_lines w attended tells) answer old (λ input. ap (λ (x : Work). early_lines x attended tells input) same ∙ none input)
+-- all that a work says for an input is some of what it says
+some_of_work : (terminals : Terminals) (bare : Bool) (w : Work) (input : Input) (text : Text) → AreWorkLines terminals bare w input text
+    → AreSomeWorkLines terminals bare w text
+some_of_work terminals bare work.Show input text are = are
+some_of_work terminals bare (work.Create creation) input text are = are
+some_of_work terminals bare (work.Recover passphrase form expected) input text are = inr are
+some_of_work terminals bare (work.Drill drill) input text are = inr (are.set, length are.listed, are.text_is)
+some_of_work terminals bare work.Status input text are = are
+some_of_work terminals bare (work.Reissue reissue) input text are = are
+some_of_work terminals bare work.Repair input text are = are
+some_of_work terminals bare (work.Resplit resplit) input text are = are
 
-  -- beside a refusal nothing is said
-  pub unsaid_refusal : (T : Type 0) (lines : Input → Text) (fault : Fault) (old : Messages E)
-      → SaysOnceRead remaining contents {T = T} lines reader (Err fault) old old
-  unsaid_refusal T lines fault old = let (input, all) = some_input (remaining reader) in (input, all, (λ _. refl))
+module _ {E : Type 0} (contents : E → Option (List ℕ)) where
+  -- what is said of a set, and then of so many quorums
+  said_of_drill : (set : List ShareFields) (n : ℕ) (old mid new : Person E) → SaysSet contents set old mid → AreSeen (SaysCount contents) n mid new
+      → Says contents old new (drill_lines old.terminals set n)
+  said_of_drill set n old mid new found seen =
+      says_both contents old mid new (line_if (is_attended old.terminals) (set_lines set)) (line_if (shows_progress old.terminals) (listed_lines n)) found
+      (subst (λ (t : Terminals). Says contents mid new (line_if (shows_progress t) (listed_lines n))) found.same_terminals (told_listed contents n mid new seen))
 
-  -- of a failed writer it isn't known what is said
-  pub unsaid_failure : (T : Type 0) (lines : Input → Text) (old new : Messages E)
-      → SaysOnceRead remaining contents {T = T} lines reader (Err (fault_of (Device Write))) old new
-  unsaid_failure T lines old new = let (input, all) = some_input (remaining reader) in (input, all, (λ one. absurd (omega (arith, one))))
+module _ {R E : Type 0} (remaining : R → Option (List ℕ)) (contents : E → Option (List ℕ)) (terminals : Terminals) (bare : Bool) where
+  -- nothing is said for a work that says nothing itself
+  pub unsaid_work : {T : Type 0} (reader : R) (w v : Work) (answer : Result T Fault) (old : Person E) → w ≡ v
+      → ((input : Input) → AreWorkLines terminals bare v input []) → AreSomeWorkLines terminals bare v []
+      → SaysInRun remaining contents terminals bare w reader answer old old
+  unsaid_work reader w v (Ok found) old same none some =
+      let (input, all) = some_input (remaining reader) in
+      (input, all, ([], subst (λ (x : Work). AreWorkLines terminals bare x input []) (sym same) (none input), nothing_said contents old))
+  unsaid_work reader w v (Err fault) old same none some =
+      (λ _. refl, ([], subst (λ (x : Work). AreSomeWorkLines terminals bare x []) (sym same) some, nothing_said contents old))
 
   -- the same beside what is judged by an answer
-  pub said_judged : {T : Type 0} (is_well : T → Bool) (lines : Input → Text) (found : Result T Fault) (given : Result Bool Fault) (old new : Messages E)
-      → given ≡ judged is_well found → SaysOnceRead remaining contents lines reader found old new
-      → SaysOnceRead remaining contents lines reader given old new
-  said_judged is_well lines (Ok found) given old new same says =
-      subst (λ (answer : Result Bool Fault). SaysOnceRead remaining contents lines reader answer old new) (sym same) says
-  said_judged is_well lines (Err fault) given old new same says =
-      subst (λ (answer : Result Bool Fault). SaysOnceRead remaining contents lines reader answer old new) (sym same) says
+  pub said_judged : {T : Type 0} (reader : R) (is_well : T → Bool) (w : Work) (found : Result T Fault) (given : Result Bool Fault) (old new : Person E)
+      → given ≡ judged is_well found → SaysInRun remaining contents terminals bare w reader found old new
+      → SaysInRun remaining contents terminals bare w reader given old new
+  said_judged reader is_well w (Ok found) given old new same says =
+      subst (λ (answer : Result Bool Fault). SaysInRun remaining contents terminals bare w reader answer old new) (sym same) says
+  said_judged reader is_well w (Err fault) given old new same says =
+      subst (λ (answer : Result Bool Fault). SaysInRun remaining contents terminals bare w reader answer old new) (sym same) says
 
-  -- that no passphrase was used is said behind what a work says itself
-  pub said_both : (w : Work) (attended tells : Bool) (answer : Result Bool Fault) (old mid new : Messages E)
-      → SaysOnceRead remaining contents (early_lines w attended tells) reader answer old mid
-      → SaysBeside contents (line_if (tells_last w tells) bare_line) answer mid new
-      → SaysOnceRead remaining contents (work_late_lines w attended tells) reader answer old new
-  said_both w attended tells (Ok is_well) old mid new (input, all, first) then = (
-    input,
-    all,
-    subst (Says contents old new) (both_lines w attended tells input)
-        (says_both contents old mid new (early_lines w attended tells input) (line_if (tells_last w tells) bare_line) first then),
-  )
-  said_both w attended tells (Err fault) old mid new (input, all, first) then = (input, all, (λ one. then one ∙ first one))
+  -- some of what a work says is said in any case
+  said_some : (reader : R) (w : Work) (answer : Result Bool Fault) (old new : Person E)
+      → SaysInRun remaining contents terminals bare w reader answer old new
+      → (text : Text) × AreSomeWorkLines terminals bare w text × Says contents old new text
+  said_some reader w (Ok is_well) old new (input, all, (text, are, says)) = (text, some_of_work terminals bare w input text are, says)
+  said_some reader w (Err fault) old new (same, some) = some
 
   -- a flush leaves what is said
-  pub said_behind : (lines : Input → Text) (held last : Option (List ℕ)) (old new : Messages E) (input : R) → reader ≡ input
-      → (answer given : Result Bool Fault) → SaysOnceRead remaining contents lines reader answer old new → IsFlushed held last answer given
-      → SaysOnceRead remaining contents lines input given old new
-  said_behind lines held last old new input is answer given says (kept, inl same) =
-      subst (λ (r : R). SaysOnceRead remaining contents lines r given old new) is
-      (subst (λ (a : Result Bool Fault). SaysOnceRead remaining contents lines reader a old new) (sym same) says)
-  said_behind lines held last old new input is answer given says (kept, inr same) =
-      subst (λ (r : R). SaysOnceRead remaining contents lines r given old new) is
-      (subst (λ (a : Result Bool Fault). SaysOnceRead remaining contents lines reader a old new) (sym same) (unsaid_failure Bool lines old new))
+  pub said_behind : (reader input : R) (w : Work) (held last : Option (List ℕ)) (old new : Person E) (answer given : Result Bool Fault) → reader ≡ input
+      → SaysInRun remaining contents terminals bare w reader answer old new → IsFlushed held last answer given
+      → SaysInRun remaining contents terminals bare w input given old new
+  said_behind reader input w held last old new answer given is says (kept, inl same) =
+      subst (λ (r : R). SaysInRun remaining contents terminals bare w r given old new) is
+      (subst (λ (a : Result Bool Fault). SaysInRun remaining contents terminals bare w reader a old new) (sym same) says)
+  said_behind reader input w held last old new answer given is says (kept, inr failed) =
+      subst (λ (a : Result Bool Fault). SaysInRun remaining contents terminals bare w input a old new) (sym failed)
+      (λ one. absurd (omega (arith, one)), said_some reader w answer old new says)
 
--- what is said of a set is said of the input that is read as it
-pub said_of_set : {R E T : Type 0} (remaining : R → Option (List ℕ)) (contents : E → Option (List ℕ)) (first last : Counted R) (passphrase : List ℕ)
-    (set : List ShareFields) (attended : Bool) (found : T) (old new : Messages E)
-    → OfInput remaining first last (λ input. IsCheckedSet passphrase input (Ok set)) → last.failures ≡ first.failures
-    → Says contents old new (line_if attended (set_lines set))
-    → SaysOnceRead remaining contents (λ input. line_if attended (read_lines (read_as input))) first.device (Ok found) old new
-said_of_set remaining contents first last passphrase set attended found old new checked same says =
-    let (bytes, all, is) = of_all remaining first last (λ input. IsCheckedSet passphrase input (Ok set)) checked same in (
-      whole bytes,
-      (bytes, all, refl),
-      subst (Says contents old new) (ap (λ read. line_if attended (read_lines read)) (sym (read_of_checked passphrase (whole bytes) set is))) says,
-    )
+  module _ (reader read_to : Counted R) where
+    -- a drill
+    pub said_by_drill : (drill : Drill) (after : Option Names) (found : Result Done Fault) (old new : Person E) → terminals ≡ old.terminals
+        → after ≡ drill.after → read_to.failures ≡ reader.failures + read_failures found
+        → IfOk found (λ done. OfInput remaining reader read_to (SeesAll (SaysCount contents) (SaysSet contents) after drill.limit old new))
+        → (Are : List ShareFields → List Names → Type 0) → IfErr found (λ fault. fault.refusal ≡ Device Write
+        → OfInput remaining reader read_to (SeesFirst (SaysCount contents) (SaysSet contents) Are after drill.limit old new))
+        → IfErr found (λ fault. fault.refusal ≢ Device Write → new ≡ old)
+        → SaysInRun remaining contents terminals bare (work.Drill drill) reader.device found old new
+    said_by_drill drill after (Ok done) old new here is reads all Are cut none =
+        let (bytes, told, s) = of_all remaining reader read_to (SeesAll (SaysCount contents) (SaysSet contents) after drill.limit old new) all
+        (omega (arith, reads)) in (
+          whole bytes,
+          (bytes, told, refl),
+          (
+            drill_lines terminals s.set (length s.listed),
+            record {
+              set = s.set;
+              listed = s.listed;
+              read = s.read;
+              listing = subst (λ (a : Option Names). IsListing s.set a drill.limit s.listed) is s.listing;
+              text_is = refl;
+            },
+            subst (λ (t : Terminals). Says contents old new (drill_lines t s.set (length s.listed))) (sym here)
+                (said_of_drill contents s.set (length s.listed) old s.mid new s.found s.seen),
+          ),
+        )
+    said_by_drill drill after (Err fault) old new here is reads all Are cut none = by_refusal (failed_or_not fault.refusal)
+      where
+        by_refusal : (fault.refusal ≡ Device Write) ⊎ (fault.refusal ≢ Device Write)
+            → (status_of_refusal fault.refusal ≡ 1 → new ≡ old)
+            × ((text : Text) × AreSomeWorkLines terminals bare (work.Drill drill) text × Says contents old new text)
+        by_refusal (inl failed) =
+            let (input, s) = some_read remaining reader read_to _ (cut failed) in (
+              λ one. absurd (let three : status_of_refusal fault.refusal ≡ 3 = ap status_of_refusal failed in omega (arith, one, three)),
+              (
+                drill_lines terminals s.set s.count,
+                inr (s.set, s.count, refl),
+                subst (λ (t : Terminals). Says contents old new (drill_lines t s.set s.count)) (sym here)
+                    (said_of_drill contents s.set s.count old s.mid new s.found s.seen),
+              ),
+            )
+        by_refusal (inr other) =
+            let same = none other in
+            (λ _. same, ([], inl refl, subst (λ (p : Person E). Says contents old p []) (sym same) (nothing_said contents old)))
+
+    -- a recovery
+    pub said_by_recovery : (passphrase : _) (form : _) (expected : _) (found : Result (Unit {0}) Fault) (old new : Person E) → terminals ≡ old.terminals
+        → bare ≡ old.is_bare → IfOk found (λ done. SaysOfNone contents old new)
+        → IfErr found (λ fault. fault.refusal ≡ Device Write → SaysOfNone contents old new)
+        → IfErr found (λ fault. fault.refusal ≢ Device Write → new ≡ old)
+        → SaysInRun remaining contents terminals bare (work.Recover passphrase form expected) reader.device found old new
+    said_by_recovery passphrase form expected (Ok done) old new here is all cut none =
+        let (input, told) = some_input (remaining reader.device) in
+        (input, told, (none_line terminals bare, refl, same_line here is all))
+      where
+        same_line : terminals ≡ old.terminals → bare ≡ old.is_bare → SaysOfNone contents old new → Says contents old new (none_line terminals bare)
+        same_line here is says = subst (λ (t : Terminals). Says contents old new (none_line t bare)) (sym here)
+            (subst (λ (b : Bool). Says contents old new (none_line old.terminals b)) (sym is) says)
+    said_by_recovery passphrase form expected (Err fault) old new here is all cut none = by_refusal (failed_or_not fault.refusal)
+      where
+        by_refusal : (fault.refusal ≡ Device Write) ⊎ (fault.refusal ≢ Device Write)
+            → (status_of_refusal fault.refusal ≡ 1 → new ≡ old)
+            × ((text : Text) × AreSomeWorkLines terminals bare (work.Recover passphrase form expected) text × Says contents old new text)
+        by_refusal (inl failed) = (
+          λ one. absurd (let three : status_of_refusal fault.refusal ≡ 3 = ap status_of_refusal failed in omega (arith, one, three)),
+          (
+            none_line terminals bare,
+            inr refl,
+            subst (λ (t : Terminals). Says contents old new (none_line t bare)) (sym here)
+                (subst (λ (b : Bool). Says contents old new (none_line old.terminals b)) (sym is) (cut failed)),
+          ),
+        )
+        by_refusal (inr other) =
+            let same = none other in
+            (λ _. same, ([], inl refl, subst (λ (p : Person E). Says contents old p []) (sym same) (nothing_said contents old)))

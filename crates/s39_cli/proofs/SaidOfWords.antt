@@ -1,154 +1,186 @@
 -- What is said on standard error by the whole program.
-use Rattle.std.proofs.Common.{◌≡◌, ◌⊎◌, ◌≤◌, ◌∙◌, ◌++◌, ⊎_elim, ℕ, Bool, true, false, List, [], Option, ap, arith, inl, inr, refl, subst, sym, true≢false}
+use Rattle.std.proofs.Common.{◌≡◌, ◌⊎◌, ◌≤◌, ◌∙◌, ◌++◌, ⊎_elim, ℕ, Bool, Bor, true, false, List, [], Option, Some, None, ap, arith, inl, inr, refl, subst, sym, true≢false}
 use Rattle.clap.specs.Words.{Text, fault_of, takes}
 use Rattle.s39_input.specs.Input.{Input}
 use Rattle.s39_command.specs.declared.command.BadValues.{BadValues}
 use Rattle.s39_command.specs.declared.command.Call.{Call}
+use Rattle.s39_command.specs.declared.command.Job.{Job}
+use Rattle.s39_command.specs.declared.command.Job.TheVariants as job
 use Rattle.s39_command.specs.declared.command.NoJob.{NoJob}
 use Rattle.s39_command.specs.declared.command.NoJob.TheVariants.{Help, Refused, Values, Memory}
 use Rattle.s39_command.specs.Command.{AnswersWords, GivesCall, shamir_app}
 use Rattle.s39_command.proofs.Jobs.{asks_none}
-use Rattle.s39_cli.specs.declared.messages.Messages.{Messages}
+use Rattle.s39_cli.specs.declared.person.Person.{Person}
+use Rattle.s39_cli.specs.declared.person.Terminals.{Terminals}
 use Rattle.s39_cli.specs.declared.runner.Ended.{Ended}
 use Rattle.s39_cli.specs.declared.runner.Ended.TheVariants.{With, NoMemory}
-use Rattle.s39_cli.specs.declared.runner.Terminals.{Terminals}
-use Rattle.s39_cli.specs.Ending.{IsTyped, OnEnd}
-use Rattle.s39_cli.specs.Said.{IsSaid, IsSaidAs, IsSaidOfCall, IsSaidOfJob, IsSaidWithoutJob}
-use Rattle.s39_cli.specs.Said.{OnStatus, Says, memory_line, plan_form_line}
-use Rattle.s39_cli.specs.Said.{IsNamedIn, is_attended, late_lines, line_if, long_line, secret_line, shown_line, tells_of_none, typed_line, types_mnemonics, types_passphrase, typing_line}
+use Rattle.s39_cli.specs.Ending.{IsTyped, status_in}
+use Rattle.s39_cli.specs.Said.{AreInputLines, AreLines, IsNamedIn, IsSaid, IsSaidAs, IsSaidOfCall, IsSaidOfJob, IsSaidUnread, IsSaidWithoutJob, OnStatus, Says}
+use Rattle.s39_cli.specs.Said.{file_line, is_attended, is_bare, line_if, long_line, memory_line, secret_line, shown_line, typed_line, types_mnemonics, types_passphrase, typing_line}
 use Rattle.s39_cli.specs.Values.{TakesValues, Told}
-use Rattle.s39_cli.proofs.Said.{says_both, typed_passphrase}
+use Rattle.s39_cli.proofs.Said.{no_lines, says_both, typed_passphrase}
 
 -- ---- the program
 
 module _ {R E : Type 0} (told : Told) (remaining : R → Option (List ℕ)) (contents : E → Option (List ℕ)) (terminals : Terminals)
-    (words : List Text) (reader : R) (old new : Messages E) where
-  by_call : (call : Call) → GivesCall words call
-      → fault_of shamir_app words ≡ [] → (status : ℕ) → IsSaidOfCall told remaining contents terminals call reader old new status
+    (words : List Text) (reader : R) (old new : Person E) where
+  by_call : (call : Call) → GivesCall words call → takes shamir_app words ≡ true → fault_of shamir_app words ≡ [] → (status : ℕ)
+      → IsSaidOfCall told remaining contents terminals call reader old new status
       → IsSaidAs told remaining contents terminals words reader old new status
-  by_call call found faultless status says = record {
+  by_call call found taken faultless status says = record {
     asked = λ asks. absurd (asks_none words faultless asks);
+    untaken = λ untaken. absurd (true≢false (sym taken ∙ untaken));
     taken = λ _. inr (call, found, says);
   }
 
-  module _ {W : Type 0} where
-    -- for want of memory, before anything else is said
-    only_memory : (ended : Ended R W) → ended ≡ NoMemory → Says contents old new memory_line
-        → IsSaid told remaining contents terminals words reader old new ended
-    only_memory ended none says =
-        subst (IsSaid told remaining contents terminals words reader old new) (sym none) (false, (λ comes. absurd (true≢false (sym comes))), says)
+  -- for want of memory, before anything else is said
+  only_memory : {W : Type 0} (ended : Ended R W) → ended ≡ NoMemory → Says contents old new memory_line
+      → IsSaid told remaining contents terminals words reader old new ended
+  only_memory ended none says =
+      subst (IsSaid told remaining contents terminals words reader old new) (sym none) (false, (λ comes. absurd (true≢false (sym comes))), says)
 
-    -- words that give no job
-    pub said_without_job : (no_job : NoJob) (ended : Ended R W) → AnswersWords no_job words
-        → (takes shamir_app words ≡ true → (no_job ≡ Memory) ⊎ ((bad : BadValues) × (no_job ≡ Values bad)))
-        → IsSaidWithoutJob contents (is_attended terminals) no_job old new ended
-        → IsSaid told remaining contents terminals words reader old new ended
-    said_without_job Memory ended answers wanting (none, says) = only_memory ended none says
-    said_without_job (Help text) NoMemory answers wanting says = absurd says
-    said_without_job (Refused text) NoMemory answers wanting says = absurd says
-    said_without_job (Values bad) NoMemory answers wanting says = absurd says
-    said_without_job (Help text) (With status read_to written_to) answers wanting says = record {
-      asked = λ _ none. says none;
-      taken = λ taken. ⊎_elim (λ memory. cc) (λ values. cc) (wanting taken);
-    }
-    said_without_job (Refused text) (With status read_to written_to) answers wanting says = record {
-      asked = λ asks. absurd (answers.1 asks);
-      taken = λ taken. absurd (true≢false (sym taken ∙ answers.0));
-    }
-    said_without_job (Values bad) (With status read_to written_to) answers wanting says = record {
-      asked = λ asks. absurd (answers.1 asks);
-      taken = λ _. inl (bad, answers.2, says.1);
-    }
+  -- words that give no job
+  pub said_without_job : {W : Type 0} (no_job : NoJob) (ended : Ended R W) → AnswersWords no_job words
+      → (takes shamir_app words ≡ true → (no_job ≡ Memory) ⊎ ((bad : BadValues) × (no_job ≡ Values bad)))
+      → IsSaidWithoutJob contents (is_attended terminals) no_job old new ended
+      → IsSaid told remaining contents terminals words reader old new ended
+  said_without_job Memory ended answers wanting (none, says) = only_memory ended none says
+  said_without_job (Help text) NoMemory answers wanting says = absurd says
+  said_without_job (Refused text) NoMemory answers wanting says = absurd says
+  said_without_job (Values bad) NoMemory answers wanting says = absurd says
+  said_without_job (Help text) (With status read_to written_to) answers wanting says = record {
+    asked = λ _ none. says none;
+    untaken = λ _ none. says none;
+    taken = λ taken. ⊎_elim (λ memory. cc) (λ values. cc) (wanting taken);
+  }
+  said_without_job (Refused text) (With status read_to written_to) answers wanting says = record {
+    asked = λ asks. absurd (answers.1 asks);
+    untaken = λ _ none. absurd (let two = says.0 in omega (arith, two, none));
+    taken = λ taken. absurd (true≢false (sym taken ∙ answers.0));
+  }
+  said_without_job (Values bad) (With status read_to written_to) answers wanting says = record {
+    asked = λ asks. absurd (answers.1 asks);
+    untaken = λ _ none. absurd (let two = says.0 in omega (arith, two, none));
+    taken = λ _. inl (bad, answers.2, says.0, says.1);
+  }
 
-    module _ (call : Call) (found : GivesCall words call) (faultless : fault_of shamir_app words ≡ []) where
-      pub said_typed : (ended : Ended R W) (read_to : R) (writer : W) → IsTyped terminals.source call.job → ended ≡ With 2 read_to writer
-          → Says contents old new typed_line → IsSaid told remaining contents terminals words reader old new ended
-      said_typed ended read_to writer typed same says =
-          subst (IsSaid told remaining contents terminals words reader old new) (sym same) (by_call call found faultless 2 (record {
-            done = λ none. absurd (omega (arith, none));
-            typed = λ _. says;
-            refused = λ one. absurd (omega (arith, one));
-            formless = λ one. absurd (omega (arith, one));
-            wrong = λ _. inl typed;
-          }))
+  module _ (call : Call) (found : GivesCall words call) (taken : takes shamir_app words ≡ true)
+      (faultless : fault_of shamir_app words ≡ []) where
+    pub said_typed : {W : Type 0} (ended : Ended R W) (read_to : R) (writer : W) → IsTyped terminals.input call.job → ended ≡ With 2 read_to writer
+        → Says contents old new typed_line → IsSaid told remaining contents terminals words reader old new ended
+    said_typed ended read_to writer typed same says =
+        subst (IsSaid told remaining contents terminals words reader old new) (sym same) (by_call call found taken faultless 2 (record {
+          done = λ none. absurd (omega (arith, none));
+          typed = λ _. says;
+          refused = λ one. absurd (omega (arith, one));
+          formless = λ one. absurd (omega (arith, one));
+          wrong = λ _. inl typed;
+          failed = λ three. absurd (omega (arith, three));
+        }))
 
-      pub said_unread : (shown : Bool) (mid : Messages E) (name : Text) (ended : Ended R W) → (IsTyped terminals.source call.job → ⊥)
-          → OnStatus ended (λ status. 2 ≤ status) → shown ≡ types_passphrase terminals.source call.files.passphrase → IsNamedIn call.files name
-          → Says contents old mid (line_if shown shown_line) → OnEnd ended (λ status read_to written_to. status ≡ 2 → Says contents mid new (long_line name))
-          → IsSaid told remaining contents terminals words reader old new ended
-      said_unread shown mid name NoMemory untyped other shown_is named first says = absurd other
-      said_unread shown mid name (With status read_to written_to) untyped other shown_is named first says =
-          by_call call found faultless status (record {
+    -- the line about a passphrase that is typed is said first, and then it is kept whether the command is bare
+    module _ (untyped : IsTyped terminals.input call.job → ⊥) (shown bare : Bool) (mid told_person : Person E)
+        (shown_is : shown ≡ types_passphrase terminals.input call.files.passphrase) (first : Says contents old mid (line_if shown shown_line))
+        (kept : told_person ≡ record mid { is_bare = bare }) where
+      -- what is said then follows it
+      then : (text : Text) → Says contents told_person new text
+          → Says contents old new (line_if (types_passphrase terminals.input call.files.passphrase) shown_line ++ text)
+      then text says =
+          let s = subst (λ (p : Person E). Says contents p new text) kept says in
+          subst (λ (b : Bool). Says contents old new (line_if b shown_line ++ text)) shown_is
+          (says_both contents old mid new (line_if shown shown_line) text first
+          (record { same_terminals = s.same_terminals; taken = s.taken; silent = s.silent }))
+
+      pub said_unread : {W : Type 0} (name : Text) (ended : Ended R W) → OnStatus ended (λ status. 2 ≤ status) → IsNamedIn call.files name
+          → IsSaidUnread contents name told_person new ended → IsSaid told remaining contents terminals words reader old new ended
+      said_unread name NoMemory other named says = absurd other
+      said_unread name (With status read_to written_to) other named (long, (reason, says)) =
+          by_call call found taken faultless status (record {
             done = λ none. absurd (omega (arith, none, other));
             typed = λ typed. absurd (untyped typed);
             refused = λ one. absurd (omega (arith, one, other));
             formless = λ one. absurd (omega (arith, one, other));
-            wrong = λ two. inr (
-              long_line name,
-              inr (name, named, refl),
-              subst (λ (b : Bool). Says contents old new (line_if b shown_line ++ long_line name)) shown_is
-                  (says_both contents old mid new (line_if shown shown_line) (long_line name) first (says two)),
+            wrong = λ two. inr (long_line name, inr (name, named, refl), then (long_line name) (long two));
+            failed = λ _. (
+              false,
+              [],
+              file_line name reason,
+              (λ comes. absurd (true≢false (sym comes))),
+              no_lines terminals (is_bare call) call.job,
+              inr (name, reason, refl),
+              then (file_line name reason) says,
             );
           })
 
-      pub said_of_job : (attended shown types tells : Bool) (secret passphrase : Option (List ℕ)) (behind : R) (mid : Messages E) (ended : Ended R W)
-          → (IsTyped terminals.source call.job → ⊥) → TakesValues told remaining call.files secret passphrase reader behind
-          → attended ≡ is_attended terminals → shown ≡ types_passphrase terminals.source call.files.passphrase
-          → types ≡ types_mnemonics terminals.source call.job
-          → tells ≡ tells_of_none terminals call
-          → Says contents old mid (line_if shown shown_line) → IsSaidOfJob remaining contents call.job attended types tells behind mid new ended
+      pub said_of_job : {W : Type 0} (secret passphrase : Option (List ℕ)) (behind : R) (ended : Ended R W) → bare ≡ is_bare call
+          → told_person.terminals ≡ terminals → TakesValues told remaining call.files secret passphrase reader behind
+          → IsSaidOfJob remaining contents told_person.terminals told_person.is_bare call.job behind told_person new ended
           → IsSaid told remaining contents terminals words reader old new ended
-      said_of_job attended shown types tells secret passphrase behind mid NoMemory untyped takes attended_is shown_is types_is tells_is first
-          says = (
-            shown,
-            (λ comes. typed_passphrase terminals.source call.files.passphrase (sym shown_is ∙ comes)),
-            says_both contents old mid new (line_if shown shown_line) memory_line first says,
-          )
-      said_of_job attended shown types tells secret passphrase behind mid (With status read_to written_to) untyped takes attended_is shown_is types_is tells_is
-          first says = by_call call found faultless status (record {
+      said_of_job secret passphrase behind ended bare_is here takes says = by_ending ended
+          (subst (λ (b : Bool). IsSaidOfJob remaining contents terminals b call.job behind told_person new ended)
+          (ap (λ (p : Person E). p.is_bare) kept ∙ bare_is)
+          (subst (λ (t : Terminals). IsSaidOfJob remaining contents t told_person.is_bare call.job behind told_person new ended) here says))
+        where
+          by_ending : {W : Type 0} (ended : Ended R W) → IsSaidOfJob remaining contents terminals (is_bare call) call.job behind told_person new ended
+              → IsSaid told remaining contents terminals words reader old new ended
+          by_ending NoMemory says =
+              (types_passphrase terminals.input call.files.passphrase, typed_passphrase terminals.input call.files.passphrase, then memory_line says)
+          by_ending (With status read_to written_to) says = by_call call found taken faultless status (record {
             done = λ none.
-                let (input, all, is) = says.done none in (
-                  input,
-                  (secret, passphrase, behind, takes, all),
-                  subst (λ (b : Bool). Says contents old new (line_if b shown_line ++ (line_if (types_mnemonics terminals.source call.job) typing_line
-                      ++ late input (is_attended terminals) (tells_of_none terminals call)))) shown_is
-                      (subst (λ (b : Bool). Says contents old new (line_if shown shown_line ++ (line_if b typing_line
-                      ++ late input (is_attended terminals) (tells_of_none terminals call)))) types_is
-                      (subst (λ (b : Bool). Says contents old new (line_if shown shown_line ++ (line_if types typing_line
-                      ++ late input (is_attended terminals) b))) tells_is
-                      (subst (λ (b : Bool). Says contents old new (line_if shown shown_line ++ (line_if types typing_line ++ late input b tells))) attended_is
-                      (says_both contents old mid new (line_if shown shown_line) (line_if types typing_line ++ late input attended tells) first is)))),
-                );
+                let (input, all, (late, are, is)) = says.done none in
+                (input, (secret, passphrase, behind, takes, all), (_, (late, are, refl), then _ is));
             typed = λ typed. absurd (untyped typed);
             refused = λ one formed.
-                let r = says.refused one formed in (
-                  r.0,
-                  r.1,
-                  (λ comes. sym types_is ∙ r.2 comes),
-                  ⊎_elim (λ short. inl short) (λ lines. inr (
-                    lines.0,
-                    (secret, passphrase, behind, takes, lines.1),
-                    lines.2 ∙ ap (λ (b : Bool). late lines.0 b tells) attended_is ∙ ap (λ (b : Bool). late lines.0 (is_attended terminals) b) tells_is,
-                  )) r.3,
-                  r.4,
-                  subst (λ (b : Bool). Says contents old new (line_if b shown_line ++ (line_if r.0 typing_line ++ r.1))) shown_is
-                      (says_both contents old mid new (line_if shown shown_line) (line_if r.0 typing_line ++ r.1) first r.5),
+                let (begun, text, within, short, ready, is) = says.refused one formed in (
+                  begun,
+                  text,
+                  within,
+                  ⊎_elim (λ few. inl few) (λ lines. inr (lines.0, (secret, passphrase, behind, takes, lines.1), lines.2)) short,
+                  ready,
+                  then _ is,
                 );
-            formless = λ one formless.
-                let r = says.formless one formless in (
-                  r.0,
-                  r.1,
-                  subst (λ (b : Bool). Says contents old new (line_if b shown_line ++ (r.0 ++ line_if (is_attended terminals) plan_form_line)))
-                      shown_is (subst (λ (b : Bool). Says contents old new (line_if shown shown_line ++ (r.0 ++ line_if b plan_form_line))) attended_is
-                      (says_both contents old mid new (line_if shown shown_line) (r.0 ++ line_if attended plan_form_line) first r.2)),
-                );
-            wrong = λ two. inr (
-              secret_line,
-              inl refl,
-              subst (λ (b : Bool). Says contents old new (line_if b shown_line ++ secret_line)) shown_is
-                  (says_both contents old mid new (line_if shown shown_line) secret_line first (says.wrong two)),
-            );
+            formless = λ one formless. (let (text, short, is) = says.formless one formless in (text, short, then _ is));
+            wrong = λ two. inr (secret_line, inl refl, then secret_line (says.wrong two));
+            failed = λ three.
+                let (begun, early, message, within, are, short, is) = says.failed three in
+                (begun, early, message, within, are, short, then _ is);
           })
-        where
-          late : Input → Bool → Bool → Text
-          late input attended tells = late_lines call.job attended tells input
+
+-- ---- nobody
+
+abbrev pub nobody : Terminals
+nobody = record { input = false; output = false; errors = false }
+
+no_passphrase_typed : (file : Option (Bor Text)) → types_passphrase false file ≡ false
+no_passphrase_typed (Some file) = refl
+no_passphrase_typed None = refl
+
+no_mnemonics_typed : (j : Job) → types_mnemonics false j ≡ false
+no_mnemonics_typed (job.Create plan e x) = refl
+no_mnemonics_typed j = refl
+
+no_input_lines : (j : Job) (input : Input) (text : Text) → AreInputLines nobody j input text → text ≡ []
+no_input_lines (job.Drill after limit form expected) input text (cursor, is, are) = are.text_is
+no_input_lines j input text are = are
+
+-- nobody is told anything with exit status 0
+no_lines_at_none : (call : Call) (input : Input) (text : Text) → AreLines nobody call input text → text ≡ []
+no_lines_at_none call input text (late, (lines, are, late_is), is) =
+    is ∙ ap (λ (b : Bool). line_if b shown_line ++ (line_if (types_mnemonics false call.job) typing_line ++ late)) (no_passphrase_typed call.files.passphrase)
+    ∙ ap (λ (b : Bool). line_if b typing_line ++ late) (no_mnemonics_typed call.job)
+    ∙ late_is ∙ ap (λ (l : Text). l ++ []) (no_input_lines call.job input lines are)
+
+module _ {R E : Type 0} (told : Told) (remaining : R → Option (List ℕ)) (contents : E → Option (List ℕ)) (words : List Text) (reader : R)
+    (old new : Person E) where
+  by_taken : (status : ℕ) → IsSaidAs told remaining contents nobody words reader old new status → status ≡ 0 → (taken : Bool)
+      → takes shamir_app words ≡ taken → (new.device ≡ old.device) × (new.is_whole ≡ old.is_whole)
+  by_taken status says none false is = (says.untaken is none).silent refl
+  by_taken status says none true is = elim (says.taken is) [
+    | inl (bad, gives, two, said) ↦ absurd (omega (arith, two, none))
+    | inr (call, found, said) ↦ (let (input, behind, (text, are, is_said)) = said.done none in is_said.silent (no_lines_at_none call input text are))
+  ]
+
+  pub silent_to_nobody : {W : Type 0} (ended : Ended R W) → IsSaid told remaining contents nobody words reader old new ended → status_in ended ≡ 0
+      → (new.device ≡ old.device) × (new.is_whole ≡ old.is_whole)
+  silent_to_nobody NoMemory says none = absurd (omega (arith, none))
+  silent_to_nobody (With status read_to written_to) says none = by_taken status says none (takes shamir_app words) refl

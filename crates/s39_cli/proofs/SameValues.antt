@@ -9,7 +9,6 @@ use Rattle.s39_command.specs.declared.command.Job.{Job}
 use Rattle.s39_command.specs.declared.command.Job.TheVariants as job
 use Rattle.s39_command.specs.Command.{HaveSameValues, text_in}
 use Rattle.s39_command.proofs.OneCall.{said_same}
-use Rattle.s39_cli.specs.declared.runner.Source.{Source}
 use Rattle.s39_cli.specs.Ending.{AwaitsRandom, IsDoneWith, IsTyped}
 use Rattle.s39_cli.specs.Headline.{SameValuesWriteTheSame}
 use Rattle.s39_cli.specs.Values.{AreDrawn, Told}
@@ -67,9 +66,9 @@ same_ready job.Repair k same s is = subst (λ (other : Job). IsReady other s) (s
 same_ready (job.Resplit t f) k (t', f', same, plans, files) s is =
     subst (λ (other : Job). IsReady other s) (sym same) (subst GivesPlan plans is)
 
-pub same_typed : (source : Source) (j k : Job) → HaveSameValues j k → IsTyped source j → IsTyped source k
-same_typed source (job.Create t e x) k (t', same, plans) is = subst (IsTyped source) (sym same) is
-same_typed source j k same is = absurd is
+pub same_typed : (at_terminal : Bool) (j k : Job) → HaveSameValues j k → IsTyped at_terminal j → IsTyped at_terminal k
+same_typed at_terminal (job.Create t e x) k (t', same, plans) is = subst (IsTyped at_terminal) (sym same) is
+same_typed at_terminal j k same is = absurd is
 
 pub same_await : (j k : Job) → HaveSameValues j k → AwaitsRandom j → AwaitsRandom k
 same_await (job.Resplit t f) k (t', f', same, plans, files) is = subst AwaitsRandom (sym same) (subst GivesPlan plans is)

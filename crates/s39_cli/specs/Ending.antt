@@ -14,8 +14,6 @@ use Rattle.s39_command.specs.declared.command.NoJob.{NoJob}
 use Rattle.s39_command.specs.declared.command.NoJob.TheVariants as no_job
 use Rattle.s39_cli.specs.declared.runner.Ended.{Ended}
 use Rattle.s39_cli.specs.declared.runner.Ended.TheVariants.{With, NoMemory}
-use Rattle.s39_cli.specs.declared.runner.Source.{Source}
-use Rattle.s39_cli.specs.declared.runner.Source.TheVariants.{Terminal}
 use Rattle.s39_cli.specs.declared.work.NoWork.{NoWork}
 use Rattle.s39_cli.specs.declared.work.NoWork.TheVariants as no_work
 use Rattle.s39_command.specs.Command.{AsksForText, GivesBadValues, GivesCall, shamir_app}
@@ -33,9 +31,9 @@ abbrev pub IsOutcome : Job → Text → Text → Input → List ℕ → ℕ → 
 IsOutcome job secret passphrase = HasStatus (IsJobOutput job secret passphrase)
 
 -- the job creates a backup, and its random bytes would be typed at a terminal
-abbrev pub IsTyped : Source → Job → Type 0
-IsTyped source (Create plan exponent extendable) = source ≡ Terminal
-IsTyped source _ = ⊥
+abbrev pub IsTyped : Bool → Job → Type 0
+IsTyped at_terminal (Create plan exponent extendable) = at_terminal ≡ true
+IsTyped at_terminal _ = ⊥
 
 -- the job takes random bytes from a file: it splits anew, and its plan is one
 abbrev pub AwaitsRandom : Job → Type 0
@@ -125,27 +123,27 @@ module _ {R W : Type 0} (told : Told) (remaining : R → Option (List ℕ)) (con
 
   -- The call is done. In this order: a creation whose random bytes would be typed ends with 2, and nothing is read or written; if a
   -- value isn't read, the status is 2 because one is too long, or 3, and nothing is written; else the job with the values is done.
-  abbrev pub TakesCall : Source → Call → R → W → ℕ → R → W → Type 0
-  TakesCall source call reader writer status read_to written_to =
-      (IsTyped source call.job × EndsAtOnce 2 reader writer status read_to written_to)
-      ⊎ ((IsTyped source call.job → ⊥) × (LacksValue call.files reader read_to
+  abbrev pub TakesCall : Bool → Call → R → W → ℕ → R → W → Type 0
+  TakesCall at_terminal call reader writer status read_to written_to =
+      (IsTyped at_terminal call.job × EndsAtOnce 2 reader writer status read_to written_to)
+      ⊎ ((IsTyped at_terminal call.job → ⊥) × (LacksValue call.files reader read_to
       × EndsUnwritten (HasLong told remaining call.files reader) writer status written_to))
-      ⊎ ((IsTyped source call.job → ⊥) × ((secret passphrase : Option (List ℕ)) × (behind : R)
+      ⊎ ((IsTyped at_terminal call.job → ⊥) × ((secret passphrase : Option (List ℕ)) × (behind : R)
       × TakesValues told remaining call.files secret passphrase reader behind × DoesDrawn call.job
       (text_of secret call.given.secret) (text_of passphrase call.given.passphrase) behind writer status read_to written_to))
 
-  -- How the program ends with these words and this source of its input: with help or the version if they ask for it; with 2 if they
+  -- How the program ends with these words, by whether its input is a terminal: with help or the version if they ask for it; with 2 if they
   -- are no command, or a value of it is missing or given twice; and otherwise as the call that they give does.
-  pub record EndsAs (source : Source) (words : List Text) (reader : R) (writer : W) (status : ℕ) (read_to : R) (written_to : W) : Type 0 where
+  pub record EndsAs (at_terminal : Bool) (words : List Text) (reader : R) (writer : W) (status : ℕ) (read_to : R) (written_to : W) : Type 0 where
     pub asked : AsksForText words → (text : List ℕ) × ShowsText contents text reader writer status read_to written_to
     pub refused : takes shamir_app words ≡ false → (AsksForText words → ⊥) → EndsAtOnce 2 reader writer status read_to written_to
     pub taken : takes shamir_app words ≡ true
         → (((bad : BadValues) × GivesBadValues words bad) × EndsAtOnce 2 reader writer status read_to written_to)
-        ⊎ ((call : Call) × GivesCall words call × TakesCall source call reader writer status read_to written_to)
+        ⊎ ((call : Call) × GivesCall words call × TakesCall at_terminal call reader writer status read_to written_to)
 
   -- this holds unless memory ran out
-  abbrev pub Ends : Source → List Text → R → W → Ended R W → Type 0
-  Ends source words reader writer ended = OnEnd ended (EndsAs source words reader writer)
+  abbrev pub Ends : Bool → List Text → R → W → Ended R W → Type 0
+  Ends at_terminal words reader writer ended = OnEnd ended (EndsAs at_terminal words reader writer)
 
 -- ---- within the program; no public contract cites this
 

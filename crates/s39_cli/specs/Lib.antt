@@ -2,7 +2,6 @@ pub mod Ending
 pub mod Headline
 pub mod Outcome
 pub mod Said
-pub mod Seen
 pub mod Terminal
 pub mod NoWork
 pub mod Untouched

@@ -1,5 +1,5 @@
 -- What the program says on standard error.
-use Rattle.std.specs.Prelude.{◌≡◌, ◌≢◌, ◌⊎◌, ◌≤◌, ◌++◌, ◌-◌, ◌/◌, ◌%◌, ◌^◌, ◌==◌, ◌&&◌, ℕ, zero, suc, Bool, IsFalse, true, false, List, [], Option, Some, Result, Ok, Err, is_some, is_none, bytes_eq, codes}
+use Rattle.std.specs.Prelude.{◌≡◌, ◌≢◌, ◌⊎◌, ◌≤◌, ◌++◌, ◌-◌, ◌/◌, ◌%◌, ◌^◌, ◌==◌, ◌&&◌, ◌||◌, ℕ, zero, suc, Bool, true, false, not, List, [], Option, Some, None, Result, Ok, Err, is_some, is_none, bytes_eq, codes}
 use Rattle.std.specs.Prelude.{if◌then◌else◌, length, min, nat_le, nat_lt, string_bytes}
 use Rattle.std.specs.Borrow.{Bor}
 use Rattle.std.specs.Int.{is_power_of_two}
@@ -21,33 +21,31 @@ use Rattle.s39_backup.specs.Plan.{PlanForm}
 use Rattle.s39_backup.specs.declared.plan_error.PlanError.TheVariants.{BadPlan}
 use Rattle.s39_words.specs.declared.ShareFields.{ShareFields}
 use Rattle.s39_set.specs.Counting.{quorum_count}
+use Rattle.s39_set.specs.Listing.{IsListing}
+use Rattle.s39_set.specs.Names.{Names}
 use Rattle.s39_input.specs.declared.fault.Fault.{Fault}
-use Rattle.s39_input.specs.declared.fault.LineRefusal.{LineRefusal}
-use Rattle.s39_input.specs.declared.fault.Stop.{Stop}
 use Rattle.s39_input.specs.Accepted.{read_as}
 use Rattle.s39_input.specs.Input.{Input, whole}
 use Rattle.s39_reading.specs.Exponent.{exponent_of}
-use Rattle.s39_cli.specs.declared.messages.Messages.{Messages}
-use Rattle.s39_cli.specs.declared.progress.DrillProgress.{DrillProgress}
-use Rattle.s39_cli.specs.declared.runner.Destination.{Destination}
-use Rattle.s39_cli.specs.declared.runner.Destination.TheVariants as written_at
+use Rattle.s39_cli.specs.declared.person.Person.{Person}
+use Rattle.s39_cli.specs.declared.person.Terminals.{Terminals}
 use Rattle.s39_cli.specs.declared.runner.Ended.{Ended}
 use Rattle.s39_cli.specs.declared.runner.Ended.TheVariants.{With, NoMemory}
-use Rattle.s39_cli.specs.declared.runner.Source.{Source}
-use Rattle.s39_cli.specs.declared.runner.Source.TheVariants as read_at
-use Rattle.s39_cli.specs.declared.runner.Terminals.{Terminals}
 use Rattle.s39_cli.specs.declared.work.NoWork.{NoWork}
 use Rattle.s39_cli.specs.declared.work.NoWork.TheVariants.{Secret, Plan, Memory}
 use Rattle.s39_cli.specs.declared.work.Work.{Work}
 use Rattle.s39_cli.specs.declared.work.Work.TheVariants as work
 use Rattle.s39_cli.specs.Ending.{AreAllOf, IsTyped, OnEnd}
-use Rattle.s39_cli.specs.Outcome.{IsReady, status_of_refusal}
+use Rattle.s39_cli.specs.Outcome.{IsCursor, IsReady, status_of_refusal}
 use Rattle.s39_cli.specs.Values.{TakesValues, Told, input_name}
 
 module _ {E : Type 0} (contents : E → Option (List ℕ)) where
-  -- if the writer has taken all that was said, it had taken all before, and this text follows what it held
-  abbrev pub Says : Messages E → Messages E → List ℕ → Type 0
-  Says old new text = new.is_whole ≡ true → (old.is_whole ≡ true) × Appends (contents old.device) (contents new.device) text
+  -- This text is said to a person at the same terminals. If the device has taken all that was said, it had taken all before, and the
+  -- text follows what it held. If the text is empty, nothing has changed.
+  pub record Says (old new : Person E) (text : List ℕ) : Type 0 where
+    pub same_terminals : new.terminals ≡ old.terminals
+    pub taken : new.is_whole ≡ true → (old.is_whole ≡ true) × Appends (contents old.device) (contents new.device) text
+    pub silent : text ≡ [] → (new.device ≡ old.device) × (new.is_whole ≡ old.is_whole)
 
 -- the line, if this holds
 abbrev pub line_if : Bool → Text → Text
@@ -137,11 +135,6 @@ seconds_line exponent = codes "shamir: deciphering a secret takes some " ++ deci
 abbrev pub set_lines : List ShareFields → Text
 set_lines set = count_line (quorum_count set) ++ line_if (nat_le least_slow (exponent_of set)) (seconds_line (exponent_of set))
 
--- the same of an input, if it is read as a set
-abbrev pub read_lines : Result (List ShareFields) (Stop LineRefusal) → Text
-read_lines (Ok set) = set_lines set
-read_lines (Err stop) = []
-
 -- said while quorums are listed: how many of them are
 abbrev pub listed_line : ℕ → Text
 listed_line count = codes "shamir: quorums listed: " ++ decimal count ++ codes "\n"
@@ -149,33 +142,22 @@ listed_line count = codes "shamir: quorums listed: " ++ decimal count ++ codes "
 -- ---- when they are said
 
 -- the passphrase is typed: the input is a terminal, and the passphrase is its first line
-abbrev pub types_passphrase : Source → Option (Bor Text) → Bool
-types_passphrase read_at.Terminal (Some file) = bytes_eq file.now input_name
-types_passphrase _ _ = false
+abbrev pub types_passphrase : Bool → Option (Bor Text) → Bool
+types_passphrase at_terminal (Some file) = at_terminal && bytes_eq file.now input_name
+types_passphrase at_terminal None = false
 
 -- mnemonics are typed: the input is a terminal, and the command reads mnemonics
-abbrev pub types_mnemonics : Source → Job → Bool
-types_mnemonics read_at.Elsewhere job = false
-types_mnemonics read_at.Terminal (Create plan exponent extendable) = false
-types_mnemonics read_at.Terminal _ = true
-
--- one of the three is a terminal: where the input comes from, where the output goes, and where messages go
-abbrev pub has_terminal : Source → Destination → Destination → Bool
-has_terminal read_at.Elsewhere written_at.Elsewhere written_at.Elsewhere = false
-has_terminal _ _ _ = true
+abbrev pub types_mnemonics : Bool → Job → Bool
+types_mnemonics at_terminal (Create plan exponent extendable) = false
+types_mnemonics at_terminal _ = at_terminal
 
 -- a person looks on: types the input, or sees the output or the messages
 abbrev pub is_attended : Terminals → Bool
-is_attended terminals = has_terminal terminals.source terminals.destination terminals.errors
+is_attended terminals = terminals.input || (terminals.output || terminals.errors)
 
--- messages go to a terminal, and the output doesn't
-abbrev pub is_only_told : Destination → Destination → Bool
-is_only_told written_at.Elsewhere written_at.Terminal = true
-is_only_told _ _ = false
-
--- a person is told how many quorums a drill has listed
+-- a person is told how many quorums a drill has listed: messages go to a terminal, and the output doesn't
 abbrev pub shows_progress : Terminals → Bool
-shows_progress terminals = is_only_told terminals.destination terminals.errors
+shows_progress terminals = terminals.errors && not terminals.output
 
 -- the command recovers secrets, and no fingerprint is expected
 abbrev pub recovers_any : Job → Bool
@@ -187,10 +169,6 @@ recovers_any _ = false
 abbrev pub is_bare : Call → Bool
 is_bare call = if is_some call.given.passphrase then false else if is_some call.files.passphrase then false else recovers_any call.job
 
--- a person is told that no passphrase was used
-abbrev pub tells_of_none : Terminals → Call → Bool
-tells_of_none terminals call = if is_attended terminals then is_bare call else false
-
 -- a person is told how to draw a secret: one looks on, and no secret is given
 abbrev pub tells_of_drawing : Bool → BadValues → Bool
 tells_of_drawing attended NoSecret = attended
@@ -199,21 +177,6 @@ tells_of_drawing attended _ = false
 -- all that is said of values that are missing or given twice
 abbrev pub said_of_values : Bool → BadValues → Text
 said_of_values attended bad = bad_text bad ++ line_if (tells_of_drawing attended bad) new_secret_line
-
--- what is said of the input of a job: of the set that it drills
-abbrev pub input_lines : Job → Input → Text
-input_lines (Drill after limit form expected) input = read_lines (read_as input)
-input_lines _ input = []
-
--- what is said once the input is read: to a person what is said of it, and that no passphrase was used if that is told
-abbrev pub late_lines : Job → Bool → Bool → Input → Text
-late_lines job attended tells_of_none input = line_if attended (input_lines job input) ++ line_if tells_of_none bare_line
-
--- all that is said if the exit status is 0, for the input behind the values
-abbrev pub said_of : Terminals → Call → Input → Text
-said_of terminals call input = line_if (types_passphrase terminals.source call.files.passphrase) shown_line
-    ++ (line_if (types_mnemonics terminals.source call.job) typing_line
-    ++ late_lines call.job (is_attended terminals) (tells_of_none terminals call) input)
 
 -- the greatest number of listed quorums that is told as a power of two
 abbrev pub most_doubled : ℕ
@@ -228,12 +191,58 @@ abbrev pub listed_lines : ℕ → Text
 listed_lines zero = []
 listed_lines (suc n) = listed_lines n ++ line_if (is_told (suc n)) (listed_line (suc n))
 
+-- said of no passphrase, to a person who looks on
+abbrev pub none_line : Terminals → Bool → Text
+none_line terminals bare = line_if (is_attended terminals && bare) bare_line
+
 module _ {E : Type 0} (contents : E → Option (List ℕ)) where
-  -- once so many quorums are listed, this is said if it is wanted and such a number is told, and otherwise nothing
-  pub record TellsListed (count : ℕ) (old new : DrillProgress E) : Type 0 where
-    pub wanted : new.is_wanted ≡ old.is_wanted
-    pub said : Says contents old.messages new.messages (line_if (old.is_wanted && is_told count) (listed_line count))
-    pub silent : IsFalse (old.is_wanted && is_told count) → new ≡ old
+  -- what is said of a set before it is listed, to a person who looks on
+  abbrev pub SaysSet : List ShareFields → Person E → Person E → Type 0
+  SaysSet set old new = Says contents old new (line_if (is_attended old.terminals) (set_lines set))
+
+  -- what is said once so many quorums are listed
+  abbrev pub SaysCount : ℕ → Person E → Person E → Type 0
+  SaysCount count old new = Says contents old new (line_if (shows_progress old.terminals && is_told count) (listed_line count))
+
+  -- what is said of no passphrase, before a secret is written
+  abbrev pub SaysOfNone : Person E → Person E → Type 0
+  SaysOfNone old new = Says contents old new (none_line old.terminals old.is_bare)
+
+-- all that is said of a set while so many of its quorums are listed
+abbrev pub drill_lines : Terminals → List ShareFields → ℕ → Text
+drill_lines terminals set n = line_if (is_attended terminals) (set_lines set) ++ line_if (shows_progress terminals) (listed_lines n)
+
+-- what is said of the input of a drill, which starts after these names, or at the first quorum: of its set and of all listed quorums
+pub record AreDrillLines (terminals : Terminals) (after : Option Names) (limit : ℕ) (input : Input) (text : Text) : Type 0 where
+  pub set : List ShareFields
+  pub listed : List Names
+  pub read : read_as input ≡ Ok set
+  pub listing : IsListing set after limit listed
+  pub text_is : text ≡ drill_lines terminals set (length listed)
+
+-- what is said of the input of a job
+abbrev pub AreInputLines : Terminals → Job → Input → Text → Type 0
+AreInputLines terminals (Drill after limit form expected) input text =
+    (cursor : Option Names) × IsCursor after cursor × AreDrillLines terminals cursor limit input text
+AreInputLines terminals _ input text = text ≡ []
+
+-- what is said once the input is read: what is said of it, and that no passphrase was used if the command is bare
+abbrev pub AreLateLines : Terminals → Bool → Job → Input → Text → Type 0
+AreLateLines terminals bare job input text =
+    (lines : Text) × AreInputLines terminals job input lines × (text ≡ lines ++ none_line terminals bare)
+
+-- all that is said if the exit status is 0, for the input behind the values
+abbrev pub AreLines : Terminals → Call → Input → Text → Type 0
+AreLines terminals call input text = (late : Text) × AreLateLines terminals (is_bare call) call.job input late
+    × (text ≡ line_if (types_passphrase terminals.input call.files.passphrase) shown_line
+    ++ (line_if (types_mnemonics terminals.input call.job) typing_line ++ late))
+
+-- what is said before a device fails: of the set that is drilled and of some quorums, or that no passphrase was used; or nothing
+abbrev pub AreSomeLines : Terminals → Bool → Job → Text → Type 0
+AreSomeLines terminals bare (Drill after limit form expected) text =
+    (text ≡ []) ⊎ ((set : List ShareFields) × (n : ℕ) × (text ≡ drill_lines terminals set n))
+AreSomeLines terminals bare (Recover form expected) text = (text ≡ []) ⊎ (text ≡ none_line terminals bare)
+AreSomeLines terminals bare _ text = text ≡ []
 
 -- ---- what is said with each exit status
 
@@ -252,15 +261,6 @@ HasFormlessPlan (Reissue plan names) = ¬ PlanForm plan.now
 HasFormlessPlan (Resplit plan file) = ¬ PlanForm plan.now
 HasFormlessPlan _ = ⊥
 
--- with exit status 0 nothing is said, if no person is told of anything
-abbrev pub IsSilentAtNone : {R W M : Type 0} → Bool → Ended R W → M → M → Type 0
-IsSilentAtNone tells ended old new = OnEnd ended (λ status read_to written_to. status ≡ 0 → IsFalse tells → new ≡ old)
-
--- whether the input is a terminal
-abbrev pub is_terminal : Source → Bool
-is_terminal read_at.Terminal = true
-is_terminal read_at.Elsewhere = false
-
 -- a file of a value has this name
 abbrev pub IsNamedIn : Texts → Text → Type 0
 IsNamedIn files name = (text_in files.secret ≡ Some name) ⊎ (text_in files.passphrase ≡ Some name)
@@ -278,38 +278,50 @@ abbrev pub IsBehind : {R : Type 0} → Told → (R → Option (List ℕ)) → Te
 IsBehind {R} told remaining files reader input = (secret passphrase : Option (List ℕ)) × (behind : R)
     × TakesValues told remaining files secret passphrase reader behind × IsAllOf (remaining behind) input
 
+-- the message of a device that failed, or of a file that isn't read
+abbrev pub IsFailureMessage : Text → Type 0
+IsFailureMessage text = (length text ≤ longest_message) ⊎ ((name reason : Text) × (text ≡ file_line name reason))
+
 module _ {R E : Type 0} (told : Told) (remaining : R → Option (List ℕ)) (contents : E → Option (List ℕ)) where
-  -- With exit status 0, exactly the lines of `said_of` are said. For random bytes that would be typed it is that line. With 1 it is the line
+  -- With exit status 0, exactly the lines of `AreLines` are said. For random bytes that would be typed it is that line. With 1 it is the line
   -- about a passphrase that is typed, the line about mnemonics if the command began to read them, for which its texts but the passphrase had
   -- to be right, and one message, or what is said once the input is read. If the text of the plan has another form than a plan, it is that
-  -- message, and to a person which form a plan has. With 2 it is the line about such a passphrase, and what is wrong with a value.
-  pub record IsSaidOfCall (terminals : Terminals) (call : Call) (reader : R) (old new : Messages E) (status : ℕ) : Type 0 where
-    pub done : status ≡ 0 → (input : Input) × IsBehind told remaining call.files reader input × Says contents old new (said_of terminals call input)
-    pub typed : IsTyped terminals.source call.job → Says contents old new typed_line
+  -- message, and to a person which form a plan has. With 2 it is the line about such a passphrase, and what is wrong with a value. With 3 it
+  -- is both lines, what was said before the failure, and its message.
+  pub record IsSaidOfCall (terminals : Terminals) (call : Call) (reader : R) (old new : Person E) (status : ℕ) : Type 0 where
+    pub done : status ≡ 0 → (input : Input) × IsBehind told remaining call.files reader input
+        × ((text : Text) × AreLines terminals call input text × Says contents old new text)
+    pub typed : IsTyped terminals.input call.job → Says contents old new typed_line
     pub refused : status ≡ 1 → (HasFormlessPlan call.job → ⊥)
-        → (begun : Bool) × (text : Text) × IsWithin begun (types_mnemonics terminals.source call.job)
+        → (begun : Bool) × (text : Text) × IsWithin begun (types_mnemonics terminals.input call.job)
         × ((length text ≤ longest_message) ⊎ ((input : Input) × IsBehind told remaining call.files reader input
-        × (text ≡ late_lines call.job (is_attended terminals) (tells_of_none terminals call) input)))
+        × AreLateLines terminals (is_bare call) call.job input text))
         × (begun ≡ true → (secret : Text) × IsReady call.job secret)
-        × Says contents old new (line_if (types_passphrase terminals.source call.files.passphrase) shown_line ++ (line_if begun typing_line ++ text))
+        × Says contents old new
+        (line_if (types_passphrase terminals.input call.files.passphrase) shown_line ++ (line_if begun typing_line ++ text))
     pub formless : status ≡ 1 → HasFormlessPlan call.job → (text : Text) × (length text ≤ longest_message)
-        × Says contents old new (line_if (types_passphrase terminals.source call.files.passphrase) shown_line
+        × Says contents old new (line_if (types_passphrase terminals.input call.files.passphrase) shown_line
         ++ (text ++ line_if (is_attended terminals) plan_form_line))
-    pub wrong : status ≡ 2 → IsTyped terminals.source call.job ⊎ ((text : Text) × IsValueLine call.files text
-        × Says contents old new (line_if (types_passphrase terminals.source call.files.passphrase) shown_line ++ text))
+    pub wrong : status ≡ 2 → IsTyped terminals.input call.job ⊎ ((text : Text) × IsValueLine call.files text
+        × Says contents old new (line_if (types_passphrase terminals.input call.files.passphrase) shown_line ++ text))
+    pub failed : status ≡ 3 → (begun : Bool) × (early message : Text) × IsWithin begun (types_mnemonics terminals.input call.job)
+        × AreSomeLines terminals (is_bare call) call.job early × IsFailureMessage message
+        × Says contents old new (line_if (types_passphrase terminals.input call.files.passphrase) shown_line
+        ++ (line_if begun typing_line ++ (early ++ message)))
 
   -- Nothing is said beside help or the version. What is said of values that are missing or given twice, and of a call, is as above.
-  pub record IsSaidAs (terminals : Terminals) (words : List Text) (reader : R) (old new : Messages E) (status : ℕ) : Type 0 where
+  pub record IsSaidAs (terminals : Terminals) (words : List Text) (reader : R) (old new : Person E) (status : ℕ) : Type 0 where
     pub asked : AsksForText words → status ≡ 0 → Says contents old new []
-    pub taken : takes shamir_app words ≡ true
-        → ((bad : BadValues) × GivesBadValues words bad × Says contents old new (said_of_values (is_attended terminals) bad))
+    pub untaken : takes shamir_app words ≡ false → status ≡ 0 → Says contents old new []
+    pub taken : takes shamir_app words ≡ true → ((bad : BadValues) × GivesBadValues words bad × (status ≡ 2)
+        × Says contents old new (said_of_values (is_attended terminals) bad))
         ⊎ ((call : Call) × GivesCall words call × IsSaidOfCall terminals call reader old new status)
 
   -- If memory runs out, that is said, after the line about a passphrase that is typed, if that was said.
-  abbrev pub IsSaid : {W : Type 0} → Terminals → List Text → R → Messages E → Messages E → Ended R W → Type 0
+  abbrev pub IsSaid : {W : Type 0} → Terminals → List Text → R → Person E → Person E → Ended R W → Type 0
   IsSaid terminals words reader old new (With status read_to written_to) = IsSaidAs terminals words reader old new status
   IsSaid terminals words reader old new NoMemory =
-      (typed : Bool) × IsWithin typed (is_terminal terminals.source) × Says contents old new (line_if typed shown_line ++ memory_line)
+      (typed : Bool) × IsWithin typed terminals.input × Says contents old new (line_if typed shown_line ++ memory_line)
 
 -- ---- within the program; no public contract cites this
 
@@ -320,77 +332,84 @@ OnStatus NoMemory Is = ⊥
 
 module _ {E : Type 0} (contents : E → Option (List ℕ)) where
   -- the message of a refusal is said
-  abbrev pub SaysMessage : Messages E → Messages E → Type 0
+  abbrev pub SaysMessage : Person E → Person E → Type 0
   SaysMessage old new = (text : Text) × (length text ≤ longest_message) × Says contents old new text
 
   -- the message of a refusal is said, and to a person which form a plan has
-  abbrev pub SaysFormless : Bool → Messages E → Messages E → Type 0
+  abbrev pub SaysFormless : Bool → Person E → Person E → Type 0
   SaysFormless attended old new =
       (text : Text) × (length text ≤ longest_message) × Says contents old new (text ++ line_if attended plan_form_line)
 
-  -- beside an answer without a fault this is said, and nothing beside a refusal
-  abbrev pub SaysBeside : {T : Type 0} → Text → Result T Fault → Messages E → Messages E → Type 0
-  SaysBeside text (Ok found) old new = Says contents old new text
-  SaysBeside text (Err fault) old new = status_of_refusal fault.refusal ≡ 1 → new ≡ old
+  -- what is said of an answer: its fault, or if that is wanted, that no passphrase was used
+  abbrev pub SaysAnswer : Bool → Result Bool Fault → Person E → Person E → Type 0
+  SaysAnswer tells (Ok is_well) old new = Says contents old new (line_if tells bare_line)
+  SaysAnswer tells (Err fault) old new = SaysMessage old new
 
-  -- a fault is said
-  abbrev pub SaysFault : Result Bool Fault → Messages E → Messages E → Type 0
-  SaysFault (Ok is_well) old new = new ≡ old
-  SaysFault (Err fault) old new = SaysMessage old new
-
-  -- why a job isn't begun is said, with its exit status, by whether a person looks on
-  abbrev pub IsSaidUnbegun : {R W : Type 0} → Bool → NoWork → Messages E → Messages E → Ended R W → Type 0
+  -- why a job isn't begun is said, with its exit status
+  abbrev pub IsSaidUnbegun : {R W : Type 0} → Bool → NoWork → Person E → Person E → Ended R W → Type 0
   IsSaidUnbegun attended Secret old new ended = OnStatus ended (λ status. (status ≡ 2) × Says contents old new secret_line)
   IsSaidUnbegun attended (Plan error) old new ended = OnStatus ended (λ status. (status ≡ 1)
       × (error ≡ BadPlan → SaysFormless attended old new) × (error ≢ BadPlan → SaysMessage old new))
   IsSaidUnbegun attended Memory old new ended = (ended ≡ NoMemory) × Says contents old new memory_line
   IsSaidUnbegun attended _ old new ended = OnStatus ended (λ status. (status ≡ 1) × SaysMessage old new)
 
-  -- what is said for words that give no job, by whether a person looks on
-  abbrev pub IsSaidWithoutJob : {R W : Type 0} → Bool → NoJob → Messages E → Messages E → Ended R W → Type 0
+  -- why the file of this name isn't read is said: its value is too long, or for another reason
+  abbrev pub IsSaidUnread : {R W : Type 0} → Text → Person E → Person E → Ended R W → Type 0
+  IsSaidUnread name old new ended = OnEnd ended (λ status read_to written_to. (status ≡ 2 → Says contents old new (long_line name))
+      × ((reason : Text) × Says contents old new (file_line name reason)))
+
+  -- what is said for words that give no job
+  abbrev pub IsSaidWithoutJob : {R W : Type 0} → Bool → NoJob → Person E → Person E → Ended R W → Type 0
   IsSaidWithoutJob attended (Help text) old new ended = OnStatus ended (λ status. status ≡ 0 → Says contents old new [])
   IsSaidWithoutJob attended (Refused text) old new ended = OnStatus ended (λ status. (status ≡ 2) × Says contents old new (string_bytes text))
-  IsSaidWithoutJob attended (Values bad) old new ended = OnStatus ended (λ status. (status ≡ 2) × Says contents old new (said_of_values attended bad))
+  IsSaidWithoutJob attended (Values bad) old new ended =
+      OnStatus ended (λ status. (status ≡ 2) × Says contents old new (said_of_values attended bad))
   IsSaidWithoutJob attended no_job.Memory old new ended = (ended ≡ NoMemory) × Says contents old new memory_line
 
--- what is said of the input of a work, as of that of its job
-abbrev pub work_input_lines : Work → Input → Text
-work_input_lines (work.Drill drill) input = read_lines (read_as input)
-work_input_lines _ input = []
+-- what a work says itself once its input is read: what is said of its drill, or before it recovers, that no passphrase was used
+abbrev pub AreWorkLines : Terminals → Bool → Work → Input → Text → Type 0
+AreWorkLines terminals bare (work.Drill drill) input text = AreDrillLines terminals drill.after drill.limit input text
+AreWorkLines terminals bare (work.Recover passphrase form expected) input text = text ≡ none_line terminals bare
+AreWorkLines terminals bare _ input text = text ≡ []
 
--- what a work says itself once its input is read: of the set that it drills; or before it recovers, that no passphrase was used
-abbrev pub early_lines : Work → Bool → Bool → Input → Text
-early_lines (work.Recover passphrase form expected) attended tells_of_none input = line_if tells_of_none bare_line
-early_lines (work.Drill drill) attended tells_of_none input = line_if attended (read_lines (read_as input))
-early_lines _ attended tells_of_none input = []
+-- what a work says itself before a device fails
+abbrev pub AreSomeWorkLines : Terminals → Bool → Work → Text → Type 0
+AreSomeWorkLines terminals bare (work.Drill drill) text =
+    (text ≡ []) ⊎ ((set : List ShareFields) × (n : ℕ) × (text ≡ drill_lines terminals set n))
+AreSomeWorkLines terminals bare (work.Recover passphrase form expected) text = (text ≡ []) ⊎ (text ≡ none_line terminals bare)
+AreSomeWorkLines terminals bare _ text = text ≡ []
 
 -- it is left to the caller of a work to tell that no passphrase was used
 abbrev pub tells_last : Work → Bool → Bool
 tells_last (work.Recover passphrase form expected) tells_of_none = false
 tells_last _ tells_of_none = tells_of_none
 
--- what is said once the input of a work is read, as once that of its job is
-abbrev pub work_late_lines : Work → Bool → Bool → Input → Text
-work_late_lines w attended tells_of_none input = line_if attended (work_input_lines w input) ++ line_if tells_of_none bare_line
-
 module _ {R E : Type 0} (remaining : R → Option (List ℕ)) (contents : E → Option (List ℕ)) where
-  -- beside an answer without a fault this is said for the input that a reader has, and nothing beside a refusal
-  abbrev pub SaysOnceRead : {T : Type 0} → (Input → Text) → R → Result T Fault → Messages E → Messages E → Type 0
-  SaysOnceRead lines reader answer old new = (input : Input) × IsAllOf (remaining reader) input × SaysBeside contents (lines input) answer old new
+  -- What a work says itself, beside an answer without a fault, for the input that a reader has. Beside a refusal it is nothing, and
+  -- beside a device that failed some of it.
+  abbrev pub SaysInRun : {T : Type 0} → Terminals → Bool → Work → R → Result T Fault → Person E → Person E → Type 0
+  SaysInRun terminals bare w reader (Ok found) old new = (input : Input) × IsAllOf (remaining reader) input
+      × ((text : Text) × AreWorkLines terminals bare w input text × Says contents old new text)
+  SaysInRun terminals bare w reader (Err fault) old new = (status_of_refusal fault.refusal ≡ 1 → new ≡ old)
+      × ((text : Text) × AreSomeWorkLines terminals bare w text × Says contents old new text)
 
-  -- what is said for a job, by whether a person looks on, whether mnemonics are typed for it, and whether a person is told that no passphrase was used
-  pub record IsSaidBy (job : Job) (attended types_mnemonics tells_of_none : Bool) (reader : R) (old new : Messages E) (status : ℕ) : Type 0 where
+  -- what is said for a job
+  pub record IsSaidBy (terminals : Terminals) (bare : Bool) (job : Job) (reader : R) (old new : Person E) (status : ℕ) : Type 0 where
     pub done : status ≡ 0 → (input : Input) × IsAllOf (remaining reader) input
-        × Says contents old new (line_if types_mnemonics typing_line ++ late_lines job attended tells_of_none input)
+        × ((late : Text) × AreLateLines terminals bare job input late
+        × Says contents old new (line_if (types_mnemonics terminals.input job) typing_line ++ late))
     pub refused : status ≡ 1 → (HasFormlessPlan job → ⊥)
-        → (begun : Bool) × (text : Text) × IsWithin begun types_mnemonics
-        × ((length text ≤ longest_message) ⊎ ((input : Input) × IsAllOf (remaining reader) input × (text ≡ late_lines job attended tells_of_none input)))
+        → (begun : Bool) × (text : Text) × IsWithin begun (types_mnemonics terminals.input job)
+        × ((length text ≤ longest_message)
+        ⊎ ((input : Input) × IsAllOf (remaining reader) input × AreLateLines terminals bare job input text))
         × (begun ≡ true → (secret : Text) × IsReady job secret) × Says contents old new (line_if begun typing_line ++ text)
-    pub formless : status ≡ 1 → HasFormlessPlan job → SaysFormless contents attended old new
+    pub formless : status ≡ 1 → HasFormlessPlan job → SaysFormless contents (is_attended terminals) old new
     pub wrong : status ≡ 2 → Says contents old new secret_line
+    pub failed : status ≡ 3 → (begun : Bool) × (early message : Text) × IsWithin begun (types_mnemonics terminals.input job)
+        × AreSomeLines terminals bare job early × IsFailureMessage message
+        × Says contents old new (line_if begun typing_line ++ (early ++ message))
 
   -- the same for how it ends
-  abbrev pub IsSaidOfJob : {W : Type 0} → Job → Bool → Bool → Bool → R → Messages E → Messages E → Ended R W → Type 0
-  IsSaidOfJob job attended types_mnemonics tells_of_none reader old new (With status read_to written_to) =
-      IsSaidBy job attended types_mnemonics tells_of_none reader old new status
-  IsSaidOfJob job attended types_mnemonics tells_of_none reader old new NoMemory = Says contents old new memory_line
+  abbrev pub IsSaidOfJob : {W : Type 0} → Terminals → Bool → Job → R → Person E → Person E → Ended R W → Type 0
+  IsSaidOfJob terminals bare job reader old new (With status read_to written_to) = IsSaidBy terminals bare job reader old new status
+  IsSaidOfJob terminals bare job reader old new NoMemory = Says contents old new memory_line

@@ -16,10 +16,9 @@ ghost use Rattle.s39_cli.specs.Outcome.{IsReady};
 ghost use Rattle.s39_cli.specs.Values.{text_of};
 
 use crate::laws::created_jobs_recover;
-use crate::messages::Messages;
-use crate::runner::{Destination, Ended, Source, Terminals, program};
+use crate::person::Person;
+use crate::runner::{Ended, program};
 use crate::values::Shelf;
-use s39_tool::{Unwatched, Watch};
 use std::alloc::Global;
 use std::collections::VecDeque;
 use std::io::{Read, Write};
@@ -27,30 +26,27 @@ use std::io::{Read, Write};
 /// Runs the program with any words that it takes and that give a job, and delivers what this job writes, with its exit status. The
 /// job's secret and passphrase stand in the words, and each of its texts gives a value. If it is a creation, its random bytes
 /// aren't typed. If it splits anew, it writes by the first bytes of the named file, or it ends with 3 as this file isn't read.
-pub fn run<S: Shelf, R: Read + Drop, W: Write + Drop, E: Write, P: Watch>(
+pub fn run<S: Shelf, R: Read + Drop, W: Write + Drop, E: Write>(
     shelf: &S,
     alloc: Global,
     words: &[&str],
     input: R,
     output: W,
-    errors: &mut Messages<E>,
-    watch: &mut P,
-    terminals: Terminals,
+    person: &mut Person<E>,
 ) -> Ended<R, W>
     ensures { (job : Job) (given : Texts)
         → takes shamir_app (map (λ word. word.now) words.now) ≡ true
         → GivesJob (map (λ word. word.now) words.now) job given
-        → IsReady job (text_of None given.secret) → (IsTyped terminals.source job → ⊥)
+        → IsReady job (text_of None given.secret) → (IsTyped person.old.terminals.input job → ⊥)
         → OnEnd result (DeliversDrawn (S.told shelf.now) R.remaining W.contents job
         (text_of None given.secret) (text_of None given.passphrase) input output) }
 {
-    program(shelf, alloc, words, input, output, errors, watch, terminals)
+    program(shelf, alloc, words, input, output, person)
 }
 
 /// Runs the program with any words of a creation, and then with any words of a recovery that expects no fingerprint and has the same
-/// passphrase. The input of the second run is what the first wrote, and its output and the messages go where `terminals` says. If no
-/// device of the second fails, the secret goes out, and its exit status is 0. The result says how the second run ended, or how the
-/// first ended if its status wasn't 0.
+/// passphrase. The input of the second run is what the first wrote. If no device of the second fails, the secret goes out, and its
+/// exit status is 0. The result says how the second run ended, or how the first ended if its status wasn't 0.
 pub fn create_and_recover<S: Shelf, R: Read + Drop, W: Write + Drop, E: Write>(
     shelf: &S,
     alloc: Global,
@@ -58,8 +54,7 @@ pub fn create_and_recover<S: Shelf, R: Read + Drop, W: Write + Drop, E: Write>(
     recovering: &[&str],
     random: R,
     output: W,
-    errors: &mut Messages<E>,
-    terminals: Terminals,
+    person: &mut Person<E>,
 ) -> Result<Ended<VecDeque<u8>, W>, Ended<R, VecDeque<u8>>>
     ensures recovered { IfOk result (λ recovery. (plan : Bor Text) (exponent : ℕ) (extendable : Bool)
         (form : SecretForm) (given again : Texts)
@@ -73,25 +68,12 @@ pub fn create_and_recover<S: Shelf, R: Read + Drop, W: Write + Drop, E: Write>(
         × Appends (W.contents output) (W.contents written_to) line)) }
     ensures not_done { IfErr result (λ creation. status_in creation ≢ 0) }
     ensures first { IfErr result (λ creation. (empty : _) × (empty.items ≡ [])
-        × Ends (S.told shelf.now) R.remaining (λ queue. Some queue.items) Source.Elsewhere
+        × Ends (S.told shelf.now) R.remaining (λ queue. Some queue.items) person.old.terminals.input
         (map (λ word. word.now) creating.now) random empty creation) }
 {
     created_jobs_recover();
     let backup = VecDeque::new(alloc);
-    match program(
-        shelf,
-        alloc,
-        creating,
-        random,
-        backup,
-        errors,
-        &mut Unwatched,
-        Terminals {
-            source: Source::Elsewhere,
-            destination: Destination::Elsewhere,
-            errors: terminals.errors,
-        },
-    ) {
+    match program(shelf, alloc, creating, random, backup, person) {
         Ended::With {
             status,
             input,
@@ -104,20 +86,7 @@ pub fn create_and_recover<S: Shelf, R: Read + Drop, W: Write + Drop, E: Write>(
                     output: backup,
                 });
             }
-            Ok(program(
-                shelf,
-                alloc,
-                recovering,
-                backup,
-                output,
-                errors,
-                &mut Unwatched,
-                Terminals {
-                    source: Source::Elsewhere,
-                    destination: terminals.destination,
-                    errors: terminals.errors,
-                },
-            ))
+            Ok(program(shelf, alloc, recovering, backup, output, person))
         }
         Ended::NoMemory => Err(Ended::NoMemory),
     }

@@ -1,20 +1,16 @@
 //! How the output of a command goes to its writer.
-ghost use Rattle.std.specs.Prelude.{◌≡◌, ◌<◌, IsFalse, IsTrue, Err};
+ghost use Rattle.std.specs.Prelude.{◌≡◌, IsFalse, IsTrue, Err};
 ghost use Rattle.s39_input.specs.Fault.{fault_of};
-ghost use Rattle.s39_input.specs.Runs.{Runs};
 ghost use Rattle.s39_cli.specs.Ending.{Delivers, GoesOut, HasStatus, IsFlushed};
 ghost use Rattle.s39_cli.specs.Outcome.{status_of};
-ghost use Rattle.s39_cli.specs.Said.{SaysOnceRead, work_late_lines};
-ghost use Rattle.s39_cli.specs.Seen.{SeesOnceRead, SeesSome, SeesWork};
+ghost use Rattle.s39_cli.specs.Said.{SaysInRun};
 ghost use Rattle.s39_cli.specs.Untouched.{IsAtItsEnd};
 ghost use Rattle.s39_cli.specs.Work.{IsWorkOutput};
 
-use crate::messages::Messages;
-use crate::notes::Notes;
 use crate::patient::Patient;
-use crate::telling::tell_of_none;
+use crate::person::Person;
 use crate::work::Work;
-use s39_tool::{Counting, DeviceFailure, Fault, Refusal, Watch};
+use s39_tool::{Counting, DeviceFailure, Fault, Refusal};
 use std::io::{Read, Write};
 
 /// What a command answered (whether all is well, or its fault), and its devices.
@@ -25,58 +21,23 @@ pub(crate) struct Finished<R, W> {
     pub(crate) output: W,
 }
 
-/// Runs a command, and tells a person what the notes say: of the input that it read, and that no passphrase was used. A recovery tells
-/// this before its secret is out, and a drill after its lines.
-fn run_told<R: Read, W: Write, E: Write, P: Watch>(
-    work: &Work,
-    input: &mut Counting<R>,
-    output: &mut Counting<W>,
-    notes: Notes,
-    errors: &mut Messages<E>,
-    watch: &mut P,
-) -> Result<bool, Fault>
-    requires readable { input.old.failures < u64.MAX }
-    requires writable { output.old.failures < u64.MAX }
-    ensures runs { Runs R.remaining W.contents (IsWorkOutput work.now)
-        input.old input.new output.old output.new result }
-    ensures said { SaysOnceRead R.remaining E.contents
-        (work_late_lines work.now notes.is_attended notes.tells_of_none) input.old.device result
-        errors.old errors.new }
-    // Of any devices.
-    ensures untouched { IsAtItsEnd work.now → status_of result ≡ 1
-        → ((fault : Fault) × (result ≡ Err fault)) × (output.new ≡ output.old) }
-    ensures silent { IsFalse notes.is_attended → IsFalse notes.tells_of_none → errors.new ≡ errors.old }
-    ensures seen { SeesOnceRead P.sees R.remaining (SeesWork P.sees work.now) input.old.device result
-        watch.old watch.new }
-{
-    let answer = work.run(input, output, notes, errors, watch);
-    tell_of_none(&answer, work.tells_last(notes.tells_of_none), errors);
-    answer
-}
-
 /// Runs a command whose output goes out line by line: each as soon as it is known, and in one piece.
-pub(crate) fn by_lines<R: Read + Drop, W: Write + Drop, E: Write, P: Watch>(
+pub(crate) fn by_lines<R: Read + Drop, W: Write + Drop, E: Write>(
     work: &Work,
     input: R,
     output: W,
-    notes: Notes,
-    errors: &mut Messages<E>,
-    watch: &mut P,
+    person: &mut Person<E>,
 ) -> Finished<R, W>
     ensures delivers { Delivers R.remaining W.contents (HasStatus (IsWorkOutput work.now))
         input output (status_of result.answer) result.input result.output }
     // Of any devices.
     ensures untouched { IsAtItsEnd work.now → status_of result.answer ≡ 1 → result.output ≡ output }
-    ensures said { SaysOnceRead R.remaining E.contents
-        (work_late_lines work.now notes.is_attended notes.tells_of_none) input result.answer
-        errors.old errors.new }
-    ensures silent { IsFalse notes.is_attended → IsFalse notes.tells_of_none → errors.new ≡ errors.old }
-    ensures seen { SeesOnceRead P.sees R.remaining (SeesWork P.sees work.now) input result.answer
-        watch.old watch.new }
+    ensures said { SaysInRun R.remaining E.contents person.old.terminals person.old.is_bare
+        work.now input result.answer person.old person.new }
 {
     let mut reader = Counting::new(input);
     let mut writer = Counting::new(Patient::new(output));
-    let answer = run_told(work, &mut reader, &mut writer, notes, errors, watch);
+    let answer = work.run(&mut reader, &mut writer, person);
     let (answer, output) = flushed(answer, writer.into_inner());
     Finished {
         answer,

@@ -1,21 +1,21 @@
 //! Facts about the definitions. Each is the contract of a function that does nothing, or only calls other laws.
 ghost use Rattle.std.specs.Prelude.{◌≡◌, ◌++◌, ℕ, List, [], ◌∷◌, IsFalse, Option, Some, codes, false, filter, length};
 ghost use Rattle.std.specs.List.{range_with_len};
-ghost use Rattle.s39_input.specs.Input.{Input};
 ghost use Rattle.s39_set.specs.Written.{IsWrittenForm};
-ghost use Rattle.s39_command.specs.declared.command.Call.{Call};
 ghost use Rattle.s39_command.specs.declared.command.Job.{Job};
 ghost use Rattle.s39_cli.specs.declared.telling.TheConstants.{MESSAGE_BYTES};
 ghost use Rattle.s39_drilling.specs.Watching.{AreSeen};
-ghost use Rattle.s39_cli.specs.Said.{IsSilentAtNone, Says, TellsListed, is_told, line_if, listed_lines, longest_message, said_of};
-ghost use Rattle.s39_cli.specs.Ending.{AreAllOf, HoldsBeginning};
+ghost use Rattle.s39_cli.specs.Said.{IsSaid, Says, SaysCount, is_told, line_if, listed_lines, longest_message, shows_progress};
+ghost use Rattle.s39_cli.specs.Ending.{AreAllOf, HoldsBeginning, status_in};
+ghost use Rattle.s39_cli.specs.Values.{Told};
+ghost use Rattle.clap.specs.Words.{Text};
 ghost use Rattle.s39_cli.specs.Outcome.{HasNoCause, IsReady};
 ghost use Rattle.s39_cli.specs.Headline.{CreatedJobsRecover, DrillJobsList, OneOutcome, RecoverJobsRecover, ReissueJobsReissue, ResplitJobsResplit};
 ghost use Rattle.s39_cli.specs.OneEnding.{OneEnding, SomeEnding};
 ghost use Rattle.s39_cli.specs.Headline.{RepairsTellOfTwo, SameValuesWriteTheSame, SomeOutcome};
 
-use crate::progress::DrillProgress;
-use crate::runner::{Destination, Ended, Source, Terminals};
+use crate::person::Person;
+use crate::runner::Ended;
 use s39_backup::laws::one_plan_reading;
 use s39_creating::laws::{
     created_backups_are_split_anew, created_backups_reissue, one_create_output, one_reissue_output,
@@ -49,26 +49,24 @@ pub fn told_bytes_are_exact()
     ensures all { (all bytes : List ℕ) → AreAllOf (Some all) bytes → bytes ≡ all }
 {}
 
-/// If no person looks on, there is nothing to say with status 0, and the writer of messages then stays as it was.
+/// If no stream is a terminal, nothing is said with status 0: the device stays as it was.
 pub fn nothing_is_said_to_nobody<R, W, E>()
-    ensures unsaid { (call : Call) (input : Input)
-        → said_of (record {
-          source = Source.Elsewhere;
-          destination = Destination.Elsewhere;
-          errors = Destination.Elsewhere;
-        }) call input ≡ [] }
-    ensures silent { (input : R) (output : W) (old new : E)
-        → IsSilentAtNone false (Ended.With 0 input output) old new → new ≡ old }
+    ensures { (told : Told) (remaining : R → Option (List ℕ)) (contents : E → Option (List ℕ))
+        (words : List Text) (reader : R) (old new : Person E) (ended : Ended R W)
+        → IsSaid told remaining contents
+        (record { input = false; output = false; errors = false }) words reader old new ended
+        → status_in ended ≡ 0 → (new.device ≡ old.device) × (new.is_whole ≡ old.is_whole) }
 {}
 
-/// What a drill says while it lists so many quorums is `listed_lines`, if that is wanted and its device takes all. If it isn't wanted,
-/// the device stays as it was.
+/// What is said while a drill lists so many quorums is `listed_lines`, if a person is told how far it is. If not, the device stays as it
+/// was.
 pub fn listed_quorums_are_told<E>()
-    ensures said { (contents : E → Option (List ℕ)) (n : ℕ) (old new : DrillProgress E)
-        → AreSeen (TellsListed contents) n old new
-        → Says contents old.messages new.messages (line_if old.is_wanted (listed_lines n)) }
-    ensures silent { (contents : E → Option (List ℕ)) (n : ℕ) (old new : DrillProgress E)
-        → AreSeen (TellsListed contents) n old new → IsFalse old.is_wanted → new ≡ old }
+    ensures said { (contents : E → Option (List ℕ)) (n : ℕ) (old new : Person E)
+        → AreSeen (SaysCount contents) n old new
+        → Says contents old new (line_if (shows_progress old.terminals) (listed_lines n)) }
+    ensures silent { (contents : E → Option (List ℕ)) (n : ℕ) (old new : Person E)
+        → AreSeen (SaysCount contents) n old new → IsFalse (shows_progress old.terminals)
+        → (new.device ≡ old.device) × (new.is_whole ≡ old.is_whole) }
     ensures few { filter is_told (range_with_len 1 40) ≡ 1 ∷ 2 ∷ 4 ∷ 8 ∷ 16 ∷ 32 ∷ [] }
     ensures many { filter is_told (1048576 ∷ 1048577 ∷ 1572864 ∷ 2097152 ∷ 3145728 ∷ 4194303 ∷ [])
         ≡ 1048576 ∷ 2097152 ∷ 3145728 ∷ [] }

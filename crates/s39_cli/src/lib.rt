@@ -4,14 +4,11 @@
 
 pub mod by_words;
 mod delivery;
-mod drilling;
 pub mod laws;
-mod messages;
 mod notes;
 mod patient;
-mod progress;
+mod person;
 mod random_file;
-mod recovering;
 mod runner;
 mod secret_text;
 mod telling;
@@ -19,10 +16,8 @@ mod terminal;
 mod values;
 mod work;
 
-pub use messages::Messages;
-pub use progress::DrillProgress;
-pub use runner::{Destination, Ended, Source, Terminals, program};
-pub use s39_tool::{Unwatched, Watch};
+pub use person::{Person, Terminals};
+pub use runner::{Ended, program};
 pub use telling::no_words;
 pub use terminal::{Watched, with_rest_dropped};
 pub use values::{Shelf, SystemFiles};

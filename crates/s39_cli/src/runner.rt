@@ -1,23 +1,22 @@
 //! The program: a command line, a reader and two writers.
-ghost use Rattle.std.specs.Prelude.{◌≡◌, ◌≢◌, ◌≤◌, ◌⊎◌, map, false, IfNone, IfSome, IsFalse, IsTrue};
+ghost use Rattle.std.specs.Prelude.{◌≡◌, ◌≢◌, ◌≤◌, ◌⊎◌, map, false, IfNone, IfSome, IsTrue};
 ghost use Rattle.clap.specs.Words.{Text};
 ghost use Rattle.s39_command.specs.Command.{IsInRange};
-ghost use Rattle.s39_cli.specs.Ending.{DoesDrawn, DoesJob, Ends, EndsUnread, EndsWithoutJob, IsDoneWith, IsTyped, OnEnd, status_in};
+ghost use Rattle.s39_cli.specs.Ending.{DoesDrawn, DoesJob, Ends, EndsUnread, EndsWithoutJob, IsDoneWith, OnEnd, status_in};
 ghost use Rattle.s39_cli.specs.Values.{Told};
-ghost use Rattle.s39_cli.specs.Said.{IsSaid, IsSaidOfJob, IsSaidWithoutJob, IsSilentAtNone, OnStatus, Says, is_attended, long_line, said_of_values, typed_line};
-ghost use Rattle.s39_cli.specs.Seen.{IsSeen, IsSeenOfJob, SeesSome};
+ghost use Rattle.s39_cli.specs.Said.{IsSaid, IsSaidOfJob, IsSaidUnread, IsSaidWithoutJob, OnStatus, Says, is_attended, said_of_values, typed_line};
 ghost use Rattle.s39_cli.specs.Untouched.{IsUntouchedBy, IsUntouchedIfRefused};
 ghost use Rattle.s39_cli.specs.Work.{HasBadPassphrase};
 
 use crate::delivery::{by_lines, show_text, write_failed};
-use crate::messages::Messages;
-use crate::notes::{NEW_SECRET, Notes, SHOWN, TYPING, is_attended, tells_of_drawing};
+use crate::notes::{NEW_SECRET, SHOWN, TYPING, is_bare, tells_of_drawing};
+use crate::person::Person;
 use crate::random_file::{NoRandom, random_of};
 use crate::telling::{REASON_BYTES, no_memory_left, report, say_of_file, tell_answer, unbegun};
 use crate::values::{NoFileValue, NoValue, Secrets, Shelf, Values};
 use crate::work::{NoWork, Work};
 use s39_command::{BadValues, Job, NoJob, read_words};
-use s39_tool::{Plan, Watch};
+use s39_tool::Plan;
 use std::alloc::Global;
 use std::fmt::InlineText;
 use std::io::{Read, Write};
@@ -31,35 +30,6 @@ pub(crate) const NO_JOB: u8 = 2;
 pub(crate) const DEVICE_FAILED: u8 = 3;
 
 pub(crate) const NO_MEMORY: u8 = 4;
-
-/// Where the input of a command comes from.
-#[derive(Clone, Copy, Debug, PartialEq, Eq)]
-pub enum Source {
-    /// From a terminal, at which a person types.
-    Terminal,
-    /// From a file, or from another program.
-    Elsewhere,
-}
-
-/// Where the output of a command goes, or what is said beside it.
-#[derive(Clone, Copy, Debug, PartialEq, Eq)]
-pub enum Destination {
-    /// To a terminal, at which a person watches it.
-    Terminal,
-    /// To a file, or to another program.
-    Elsewhere,
-}
-
-/// Where the input of a command comes from, and where its output and its messages go.
-#[derive(Clone, Copy, Debug, PartialEq, Eq)]
-pub struct Terminals {
-    /// Where standard input comes from.
-    pub source: Source,
-    /// Where standard output goes.
-    pub destination: Destination,
-    /// Where standard error goes.
-    pub errors: Destination,
-}
 
 /// How the program ended.
 #[derive(Drop)]
@@ -94,108 +64,81 @@ impl<R: Drop, W: Drop> Ended<R, W> {
 ///
 /// If the words name files for values, the program reads these values first: those in files of `shelf`, and then those in the
 /// first lines of `input`. The file of random bytes is read once the plan is judged. Results and help go to `output`, each line as soon
-/// as it is known. A fault is a line on `errors`, where the text of a refused command line goes too, and what a person at a
-/// terminal is told. Each time that a drill has written the line of a quorum, `watch` is told how many it has listed. The program takes
-/// all its memory before it reads `input`. Only lines that hold values are read before that. A failing `errors` changes no status.
-pub fn program<S: Shelf, R: Read + Drop, W: Write + Drop, E: Write, P: Watch>(
+/// as it is known. A fault is a line that is said to `person`, as is the text of a refused command line, and what a person at a
+/// terminal is told. The program takes all its memory before it reads `input`. Only lines that hold values are read before that. If
+/// messages aren't taken, the status stays.
+pub fn program<S: Shelf, R: Read + Drop, W: Write + Drop, E: Write>(
     shelf: &S,
     alloc: Global,
     words: &[&str],
     input: R,
     output: W,
-    errors: &mut Messages<E>,
-    watch: &mut P,
-    terminals: Terminals,
+    person: &mut Person<E>,
 ) -> Ended<R, W>
     // Of readers and writers that tell their bytes.
-    ensures ends { Ends (S.told shelf.now) R.remaining W.contents terminals.source
+    ensures ends { Ends (S.told shelf.now) R.remaining W.contents person.old.terminals.input
         (map (λ word. word.now) words.now) input output result }
     // Of any.
     ensures untouched { IsUntouchedIfRefused (map (λ word. word.now) words.now) result output }
-    ensures said { IsSaid (S.told shelf.now) R.remaining E.contents terminals
-        (map (λ word. word.now) words.now) input errors.old errors.new result }
-    // Of any writer of messages.
-    ensures silent { IsSilentAtNone (is_attended terminals) result errors.old errors.new }
-    ensures seen { SeesSome P.sees watch.old watch.new }
-    ensures listed { IsSeen P.sees (S.told shelf.now) R.remaining
-        (map (λ word. word.now) words.now) input watch.old watch.new result }
+    ensures said { IsSaid (S.told shelf.now) R.remaining E.contents person.old.terminals
+        (map (λ word. word.now) words.now) input person.old person.new result }
 {
     let call = match read_words(alloc, words) {
         Ok(call) => call,
-        Err(no_job) => {
-            let watched = is_attended(terminals);
-            return without_job(no_job, watched, input, output, errors);
-        }
+        Err(no_job) => return without_job(no_job, input, output, person),
     };
-    if is_typed(terminals.source, &call.job) {
-        return typed(input, output, errors);
+    if person.types_random(&call.job) {
+        return typed(input, output, person);
     }
-    let notes = Notes::of(terminals, &call);
-    errors.say_if(notes.types_passphrase, SHOWN);
+    let is_shown = person.types_passphrase(call.files.passphrase);
+    person.say_if(is_shown, SHOWN);
+    person.keep(is_bare(&call));
     let mut input = input;
     let values = match Values::read(shelf, call.files, &mut input) {
         Ok(values) => values,
-        Err(unread) => return without_value(unread, input, output, errors),
+        Err(unread) => return without_value(unread, input, output, person),
     };
-    by_job(
-        shelf,
-        alloc,
-        call.job,
-        values.texts(call.given),
-        input,
-        output,
-        errors,
-        watch,
-        notes,
-    )
+    let texts = values.texts(call.given);
+    by_job(shelf, alloc, call.job, texts, input, output, person)
 }
 
 /// Does the job with these texts, or with the random bytes of its file once its plan is judged.
-fn by_job<S: Shelf, R: Read + Drop, W: Write + Drop, E: Write, P: Watch>(
+fn by_job<S: Shelf, R: Read + Drop, W: Write + Drop, E: Write>(
     shelf: &S,
     alloc: Global,
     job: Job,
     texts: Secrets,
     input: R,
     output: W,
-    errors: &mut Messages<E>,
-    watch: &mut P,
-    notes: Notes,
+    person: &mut Person<E>,
 ) -> Ended<R, W>
     requires { IsInRange job }
     ensures ends { OnEnd result (DoesDrawn (S.told shelf.now) R.remaining W.contents job.entry
         texts.entry.secret.now texts.entry.passphrase.now input output) }
     ensures untouched { IsUntouchedBy job.entry result output }
-    ensures said { IsSaidOfJob R.remaining E.contents job.entry notes.is_attended
-        notes.types_mnemonics notes.tells_of_none input errors.old errors.new result }
-    ensures silent { IsFalse notes.is_attended → IsFalse notes.types_mnemonics
-        → IsSilentAtNone notes.tells_of_none result errors.old errors.new }
-    ensures seen { SeesSome P.sees watch.old watch.new }
-    ensures listed { IsSeenOfJob P.sees R.remaining job.entry input watch.old watch.new result }
+    ensures said { IsSaidOfJob R.remaining E.contents person.old.terminals person.old.is_bare job.entry
+        input person.old person.new result }
 {
     let Some((plan, name)) = random_file(&job) else {
-        return by_texts(alloc, job, texts, input, output, errors, watch, notes);
+        return by_texts(alloc, job, texts, input, output, person);
     };
     let _judged = match Plan::parse(plan) {
         Ok(judged) => judged,
-        Err(error) => {
-            let no_work = NoWork::Plan(error);
-            return unbegun(no_work, notes.is_attended, input, output, errors);
-        }
+        Err(error) => return unbegun(NoWork::Plan(error), input, output, person),
     };
     let random = match random_of(alloc, shelf, name) {
         Ok(random) => random,
-        Err(NoRandom::Memory) => return no_memory_left(errors),
+        Err(NoRandom::Memory) => return no_memory_left(person),
         Err(NoRandom::Failed(error)) => {
             let cause = NoValue::Failed(error);
-            return without_value(NoFileValue { name, cause }, input, output, errors);
+            return without_value(NoFileValue { name, cause }, input, output, person);
         }
     };
     let texts = Secrets {
         secret: random.bytes.as_slice(),
         passphrase: texts.passphrase,
     };
-    by_texts(alloc, job, texts, input, output, errors, watch, notes)
+    by_texts(alloc, job, texts, input, output, person)
 }
 
 /// The plan and the file of random bytes of a job that takes some from a file.
@@ -210,55 +153,51 @@ fn random_file<'a>(job: &Job<'a>) -> Option<(&'a str, &'a str)>
 }
 
 /// Does the job with these texts.
-fn by_texts<R: Read + Drop, W: Write + Drop, E: Write, P: Watch>(
+fn by_texts<R: Read + Drop, W: Write + Drop, E: Write>(
     alloc: Global,
     job: Job,
     texts: Secrets,
     input: R,
     output: W,
-    errors: &mut Messages<E>,
-    watch: &mut P,
-    notes: Notes,
+    person: &mut Person<E>,
 ) -> Ended<R, W>
     requires { IsInRange job }
     ensures ends { OnEnd result (DoesJob R.remaining W.contents job.entry texts.entry.secret.now
         texts.entry.passphrase.now input output) }
     ensures untouched { IsUntouchedBy job.entry result output }
-    ensures said { IsSaidOfJob R.remaining E.contents job.entry notes.is_attended
-        notes.types_mnemonics notes.tells_of_none input errors.old errors.new result }
-    ensures silent { IsFalse notes.is_attended → IsFalse notes.types_mnemonics
-        → IsSilentAtNone notes.tells_of_none result errors.old errors.new }
-    ensures seen { SeesSome P.sees watch.old watch.new }
-    ensures listed { IsSeenOfJob P.sees R.remaining job.entry input watch.old watch.new result }
+    ensures said { IsSaidOfJob R.remaining E.contents person.old.terminals person.old.is_bare job.entry
+        input person.old person.new result }
 {
+    let types = person.types_mnemonics(&job);
     let work = match Work::of(alloc, job, texts) {
         Ok(work) => work,
-        Err(no_work) => return unbegun(no_work, notes.is_attended, input, output, errors),
+        Err(no_work) => return unbegun(no_work, input, output, person),
     };
-    errors.say_if(asks(notes, &work), TYPING);
-    let finished = by_lines(&work, input, output, notes, errors, watch);
-    tell_answer(finished, errors)
+    let tells_of_none = work.tells_last(person.hears_of_none());
+    let is_asked = asks(types, &work);
+    person.say_if(is_asked, TYPING);
+    let finished = by_lines(&work, input, output, person);
+    tell_answer(finished, tells_of_none, person)
 }
 
 /// Whether mnemonics are about to be typed.
-fn asks(notes: Notes, work: &Work) -> bool
-    ensures asked { (result ≡ notes.types_mnemonics) ⊎ ((result ≡ false) × HasBadPassphrase work.now) }
+fn asks(types: bool, work: &Work) -> bool
+    ensures asked { (result ≡ types) ⊎ ((result ≡ false) × HasBadPassphrase work.now) }
     ensures begun { IsTrue result → HasBadPassphrase work.now → ⊥ }
 {
-    notes.types_mnemonics && work.begins()
+    types && work.begins()
 }
 
 /// Answers words that give no job.
 fn without_job<R: Drop, W: Write + Drop, E: Write>(
     no_job: NoJob,
-    is_attended: bool,
     input: R,
     output: W,
-    errors: &mut Messages<E>,
+    person: &mut Person<E>,
 ) -> Ended<R, W>
     ensures ends { EndsWithoutJob W.contents no_job input output result }
-    ensures said { IsSaidWithoutJob E.contents is_attended no_job errors.old errors.new result }
-    ensures silent { IsSilentAtNone false result errors.old errors.new }
+    ensures said { IsSaidWithoutJob E.contents (is_attended person.old.terminals) no_job
+        person.old person.new result }
 {
     match no_job {
         NoJob::Help(text) => {
@@ -266,7 +205,7 @@ fn without_job<R: Drop, W: Write + Drop, E: Write>(
             let status = if is_whole {
                 DONE
             } else {
-                report(write_failed(), errors)
+                report(write_failed(), person)
             };
             Ended::With {
                 status,
@@ -275,7 +214,7 @@ fn without_job<R: Drop, W: Write + Drop, E: Write>(
             }
         }
         NoJob::Refused(text) => {
-            errors.say(text.as_bytes());
+            person.say(text.as_bytes());
             Ended::With {
                 status: NO_JOB,
                 input,
@@ -283,23 +222,25 @@ fn without_job<R: Drop, W: Write + Drop, E: Write>(
             }
         }
         NoJob::Values(bad) => {
-            refuse_values(bad, is_attended, errors);
+            refuse_values(bad, person);
             Ended::With {
                 status: NO_JOB,
                 input,
                 output,
             }
         }
-        NoJob::Memory => no_memory_left(errors),
+        NoJob::Memory => no_memory_left(person),
     }
 }
 
 /// Says what is wrong with the values of words, and how to draw a secret if a person is told.
-fn refuse_values<E: Write>(bad: BadValues, is_attended: bool, errors: &mut Messages<E>)
-    ensures { Says E.contents errors.old errors.new (said_of_values is_attended bad) }
+fn refuse_values<E: Write>(bad: BadValues, person: &mut Person<E>)
+    ensures { Says E.contents person.old person.new
+        (said_of_values (is_attended person.old.terminals) bad) }
 {
-    errors.say(bad.text().as_bytes());
-    errors.say_if(tells_of_drawing(is_attended, bad), NEW_SECRET);
+    let tells = tells_of_drawing(person.is_attended(), bad);
+    person.say(bad.text().as_bytes());
+    person.say_if(tells, NEW_SECRET);
 }
 
 /// Says why a value isn't read.
@@ -307,7 +248,7 @@ fn without_value<R: Drop, W: Drop, E: Write>(
     unread: NoFileValue,
     input: R,
     output: W,
-    errors: &mut Messages<E>,
+    person: &mut Person<E>,
 ) -> Ended<R, W>
     ensures ends { EndsUnread (unread.entry.cause ≡ NoValue.TooLong) input output result }
     ensures too_long { unread.entry.cause ≡ NoValue.TooLong
@@ -315,18 +256,17 @@ fn without_value<R: Drop, W: Drop, E: Write>(
     ensures failed { unread.entry.cause ≢ NoValue.TooLong
         → OnEnd result (λ status read_to written_to. status ≡ 3) }
     ensures not_begun { OnStatus result (λ status. 2 ≤ status) }
-    ensures said { OnEnd result (λ status read_to written_to. status ≡ 2
-        → Says E.contents errors.old errors.new (long_line unread.entry.name.now)) }
+    ensures said { IsSaidUnread E.contents unread.entry.name.now person.old person.new result }
 {
     let NoFileValue { name, cause } = unread;
     let status = match cause {
         NoValue::TooLong => {
-            say_of_file(name, "the value has more than 1024 bytes", errors);
+            say_of_file(name, "the value has more than 1024 bytes", person);
             NO_JOB
         }
         NoValue::Failed(error) => {
             let reason: InlineText<REASON_BYTES> = InlineText::of(error);
-            say_of_file(name, reason.as_str(), errors);
+            say_of_file(name, reason.as_str(), person);
             DEVICE_FAILED
         }
     };
@@ -337,23 +277,12 @@ fn without_value<R: Drop, W: Drop, E: Write>(
     }
 }
 
-/// Whether the job creates a backup whose random bytes would be typed.
-fn is_typed(source: Source, job: &Job) -> bool
-    ensures typed { IsTrue result → IsTyped source job.now }
-    ensures untyped { IsFalse result → IsTyped source job.now → ⊥ }
-{
-    match (source, job) {
-        (Source::Terminal, Job::Create { .. }) => true,
-        _ => false,
-    }
-}
-
 /// Says that random bytes aren't typed.
-fn typed<R: Drop, W: Drop, E: Write>(input: R, output: W, errors: &mut Messages<E>) -> Ended<R, W>
+fn typed<R: Drop, W: Drop, E: Write>(input: R, output: W, person: &mut Person<E>) -> Ended<R, W>
     ensures ends { result ≡ Ended.With 2 input output }
-    ensures said { Says E.contents errors.old errors.new typed_line }
+    ensures said { Says E.contents person.old person.new typed_line }
 {
-    errors.say(
+    person.say(
         b"shamir: random bytes aren't typed: pass them in, as with head -c N /dev/urandom | shamir create ..\n",
     );
     Ended::With {

@@ -1,13 +1,13 @@
 //! What is said of a refusal, and the exit status that goes with it.
-ghost use Rattle.std.specs.Prelude.{◌≡◌, ◌≢◌, IsFalse};
+ghost use Rattle.std.specs.Prelude.{◌≡◌, ◌≢◌};
 ghost use Rattle.std.specs.IoError.{error_kind};
 ghost use Rattle.s39_cli.specs.Ending.{EndsUnbegun};
 ghost use Rattle.s39_cli.specs.Outcome.{status_of, status_of_refusal};
-ghost use Rattle.s39_cli.specs.Said.{IsSaidUnbegun, Says, SaysBeside, SaysFault, SaysFormless, SaysMessage, bare_line, file_line, line_if, memory_line, no_text_line};
+ghost use Rattle.s39_cli.specs.Said.{IsSaidUnbegun, Says, SaysAnswer, SaysFormless, SaysMessage, file_line, is_attended, memory_line, no_text_line};
 
 use crate::delivery::Finished;
-use crate::messages::Messages;
 use crate::notes::{BARE, PLAN_FORM};
+use crate::person::Person;
 use crate::runner::{DEVICE_FAILED, DONE, Ended, NO_JOB, NO_MEMORY, REFUSED};
 use crate::work::NoWork;
 use s39_refusal::Cause;
@@ -32,24 +32,24 @@ const FILE_BYTES: usize = NAME_BYTES + REASON_BYTES + 12;
 /// Says why a command can't be begun.
 pub(crate) fn unbegun<R: Drop, W: Drop, E: Write>(
     no_work: NoWork,
-    is_attended: bool,
     input: R,
     output: W,
-    errors: &mut Messages<E>,
+    person: &mut Person<E>,
 ) -> Ended<R, W>
     ensures ends { EndsUnbegun no_work input output result }
-    ensures said { IsSaidUnbegun E.contents is_attended no_work errors.old errors.new result }
+    ensures said { IsSaidUnbegun E.contents (is_attended person.old.terminals) no_work
+        person.old person.new result }
 {
     let status = match no_work {
         NoWork::Secret => {
-            errors.say(b"shamir: master secret isn't hexadecimal\n");
+            person.say(b"shamir: master secret isn't hexadecimal\n");
             NO_JOB
         }
-        NoWork::Plan(error) => refuse_plan(error, is_attended, errors),
-        NoWork::Cursor(error) => refuse(error.cause(), errors),
-        NoWork::Fingerprint(error) => refuse(error.cause(), errors),
-        NoWork::Names(error) => refuse(error.cause(), errors),
-        NoWork::Memory => return no_memory_left(errors),
+        NoWork::Plan(error) => refuse_plan(error, person),
+        NoWork::Cursor(error) => refuse(error.cause(), person),
+        NoWork::Fingerprint(error) => refuse(error.cause(), person),
+        NoWork::Names(error) => refuse(error.cause(), person),
+        NoWork::Memory => return no_memory_left(person),
     };
     Ended::With {
         status,
@@ -59,42 +59,43 @@ pub(crate) fn unbegun<R: Drop, W: Drop, E: Write>(
 }
 
 /// Says why a text gives no plan, and to a person which form a plan has, if this text has another. It gives the exit status.
-fn refuse_plan<E: Write>(error: PlanError, is_attended: bool, errors: &mut Messages<E>) -> u8
+fn refuse_plan<E: Write>(error: PlanError, person: &mut Person<E>) -> u8
     ensures status { result ≡ 1 }
     ensures formless { error ≡ PlanError.BadPlan
-        → SaysFormless E.contents is_attended errors.old errors.new }
-    ensures formed { error ≢ PlanError.BadPlan → SaysMessage E.contents errors.old errors.new }
+        → SaysFormless E.contents (is_attended person.old.terminals) person.old person.new }
+    ensures formed { error ≢ PlanError.BadPlan → SaysMessage E.contents person.old person.new }
 {
-    let status = refuse(error.cause(), errors);
+    let is_attended = person.is_attended();
+    let status = refuse(error.cause(), person);
     if error == PlanError::BadPlan {
-        errors.say_if(is_attended, PLAN_FORM);
+        person.say_if(is_attended, PLAN_FORM);
     }
     status
 }
 
 /// Says why a text of the command line gives nothing, and gives the exit status.
-fn refuse<E: Write>(cause: Cause, errors: &mut Messages<E>) -> u8
+fn refuse<E: Write>(cause: Cause, person: &mut Person<E>) -> u8
     ensures status { result ≡ 1 }
-    ensures said { SaysMessage E.contents errors.old errors.new }
+    ensures said { SaysMessage E.contents person.old person.new }
 {
-    say_fault(None, cause, errors);
+    say_fault(None, cause, person);
     REFUSED
 }
 
 /// Says a refusal, at its line if there is one, in one write.
-fn say_fault<E: Write>(line: Option<u64>, cause: Cause, errors: &mut Messages<E>)
-    ensures { SaysMessage E.contents errors.old errors.new }
+fn say_fault<E: Write>(line: Option<u64>, cause: Cause, person: &mut Person<E>)
+    ensures { SaysMessage E.contents person.old person.new }
 {
     let text: InlineText<MESSAGE_BYTES> = InlineText::of(format_args!(
         "{}\n",
         FaultText::of(line, cause)
     ));
-    errors.say(text.as_str().as_bytes());
+    person.say(text.as_str().as_bytes());
 }
 
 /// Says why the value of a file isn't read, in one write. A longer name or reason is cut, and then ends in dots.
-pub(crate) fn say_of_file<E: Write>(name: &str, reason: &str, errors: &mut Messages<E>)
-    ensures { Says E.contents errors.old errors.new (file_line name.now reason.now) }
+pub(crate) fn say_of_file<E: Write>(name: &str, reason: &str, person: &mut Person<E>)
+    ensures { Says E.contents person.old person.new (file_line name.now reason.now) }
 {
     let text: InlineText<FILE_BYTES> = InlineText::new()
         .and_str("shamir: ", 8)
@@ -102,24 +103,24 @@ pub(crate) fn say_of_file<E: Write>(name: &str, reason: &str, errors: &mut Messa
         .and_str(": ", 2)
         .and_str(reason, REASON_BYTES)
         .and_str("\n", 1);
-    errors.say(text.as_str().as_bytes());
+    person.say(text.as_str().as_bytes());
 }
 
-/// Says what a command answered.
+/// Says what a command answered: its fault, or if that is wanted, that no passphrase was used.
 pub(crate) fn tell_answer<R: Drop, W: Drop, E: Write>(
     finished: Finished<R, W>,
-    errors: &mut Messages<E>,
+    tells_of_none: bool,
+    person: &mut Person<E>,
 ) -> Ended<R, W>
     ensures ends { result ≡ Ended.With (status_of finished.answer) finished.input finished.output }
-    ensures said { SaysFault E.contents finished.answer errors.old errors.new }
-    ensures silent { status_of finished.answer ≡ 0 → errors.new ≡ errors.old }
+    ensures said { SaysAnswer E.contents tells_of_none finished.answer person.old person.new }
 {
     let Finished {
         answer,
         input,
         output,
     } = finished;
-    let status = status_of(answer, errors);
+    let status = status_of(answer, tells_of_none, person);
     Ended::With {
         status,
         input,
@@ -127,37 +128,30 @@ pub(crate) fn tell_answer<R: Drop, W: Drop, E: Write>(
     }
 }
 
-/// Says of an answer without a fault that no passphrase was used, if a person is told so.
-pub(crate) fn tell_of_none<E: Write>(
-    answer: &Result<bool, Fault>,
+/// The exit status of an answer, which is said.
+fn status_of<E: Write>(
+    answer: Result<bool, Fault>,
     tells_of_none: bool,
-    errors: &mut Messages<E>,
-)
-    ensures said { SaysBeside E.contents (line_if tells_of_none bare_line) answer.now errors.old
-        errors.new }
-    ensures silent { IsFalse tells_of_none → errors.new ≡ errors.old }
-{
-    errors.say_if(tells_of_none && answer.is_ok(), BARE);
-}
-
-/// The exit status of an answer. A fault is said.
-fn status_of<E: Write>(answer: Result<bool, Fault>, errors: &mut Messages<E>) -> u8
+    person: &mut Person<E>,
+) -> u8
     ensures status { result ≡ status_of answer }
-    ensures said { SaysFault E.contents answer errors.old errors.new }
+    ensures said { SaysAnswer E.contents tells_of_none answer person.old person.new }
 {
     match answer {
-        Ok(true) => DONE,
-        Ok(false) => REFUSED,
-        Err(fault) => report(fault, errors),
+        Ok(is_well) => {
+            person.say_if(tells_of_none, BARE);
+            if is_well { DONE } else { REFUSED }
+        }
+        Err(fault) => report(fault, person),
     }
 }
 
 /// Says the fault of a run, and gives the exit status.
-pub(crate) fn report<E: Write>(fault: Fault, errors: &mut Messages<E>) -> u8
+pub(crate) fn report<E: Write>(fault: Fault, person: &mut Person<E>) -> u8
     ensures status { result ≡ status_of_refusal fault.refusal }
-    ensures said { SaysMessage E.contents errors.old errors.new }
+    ensures said { SaysMessage E.contents person.old person.new }
 {
-    say_fault(fault.line, fault.refusal.cause(), errors);
+    say_fault(fault.line, fault.refusal.cause(), person);
     match fault.refusal {
         Refusal::Device(_) => DEVICE_FAILED,
         _ => REFUSED,
@@ -166,35 +160,35 @@ pub(crate) fn report<E: Write>(fault: Fault, errors: &mut Messages<E>) -> u8
 
 /// Reports why the arguments can't be read as words, and returns the exit status: 4 if there is no memory for them, and 2 if
 /// they aren't UTF-8.
-pub fn no_words<E: Write>(error: &io::Error, errors: &mut Messages<E>) -> u8
+pub fn no_words<E: Write>(error: &io::Error, person: &mut Person<E>) -> u8
     ensures memory { error_kind error.now ≡ ErrorKind.OutOfMemory → result ≡ 4 }
     ensures other { error_kind error.now ≢ ErrorKind.OutOfMemory → result ≡ 2 }
     ensures memory_said { error_kind error.now ≡ ErrorKind.OutOfMemory
-        → Says E.contents errors.old errors.new memory_line }
+        → Says E.contents person.old person.new memory_line }
     ensures other_said { error_kind error.now ≢ ErrorKind.OutOfMemory
-        → Says E.contents errors.old errors.new no_text_line }
+        → Says E.contents person.old person.new no_text_line }
 {
     if error.kind() == ErrorKind::OutOfMemory {
-        return no_memory(errors);
+        return no_memory(person);
     }
-    errors.say(b"shamir: the arguments aren't UTF-8\n");
+    person.say(b"shamir: the arguments aren't UTF-8\n");
     NO_JOB
 }
 
 /// Says that there is no memory.
-pub(crate) fn no_memory_left<R, W, E: Write>(errors: &mut Messages<E>) -> Ended<R, W>
+pub(crate) fn no_memory_left<R, W, E: Write>(person: &mut Person<E>) -> Ended<R, W>
     ensures ends { result ≡ Ended.NoMemory }
-    ensures said { Says E.contents errors.old errors.new memory_line }
+    ensures said { Says E.contents person.old person.new memory_line }
 {
-    no_memory(errors);
+    no_memory(person);
     Ended::NoMemory
 }
 
 /// Says that there is no memory, without taking any, and gives the exit status.
-fn no_memory<E: Write>(errors: &mut Messages<E>) -> u8
+fn no_memory<E: Write>(person: &mut Person<E>) -> u8
     ensures status { result ≡ 4 }
-    ensures said { Says E.contents errors.old errors.new memory_line }
+    ensures said { Says E.contents person.old person.new memory_line }
 {
-    errors.say(b"shamir: out of memory\n");
+    person.say(b"shamir: out of memory\n");
     NO_MEMORY
 }

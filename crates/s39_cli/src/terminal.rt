@@ -7,7 +7,7 @@ ghost use Rattle.s39_cli.specs.Ending.{OnEnd};
 ghost use Rattle.s39_cli.specs.Said.{Says, rest_line};
 ghost use Rattle.s39_cli.specs.Terminal.{ConsumesMore, EndsAlike, HasRest};
 
-use crate::messages::Messages;
+use crate::person::Person;
 use crate::runner::{Ended, REFUSED};
 use std::io;
 use std::io::{ErrorKind, Read, Write};
@@ -73,32 +73,32 @@ impl<R: Read> Read for Watched<R> {
 }
 
 /// If a run that has begun to read its input ends with a status other than 0 before the input ends, or if a run ends with
-/// status 1 before it reads any, this function says on `errors` that the rest is dropped. It then reads and drops what is still
+/// status 1 before it reads any, this function tells the person that the rest is dropped. It then reads and drops what is still
 /// typed or pasted, until the input ends. The status and the output stay as they are. After help, and after a refused command
 /// line, it reads nothing.
 pub fn with_rest_dropped<R: Read + Drop, W: Drop, E: Write>(
     ended: Ended<Watched<R>, W>,
-    errors: &mut Messages<E>,
+    person: &mut Person<E>,
 ) -> Ended<Watched<R>, W>
     ensures alike { EndsAlike (λ watched. R.remaining watched.input) ended result }
     ensures done { OnEnd ended (λ status read_to written_to. status ≡ 0
-        → (result ≡ ended) × (errors.new ≡ errors.old)) }
+        → (result ≡ ended) × (person.new ≡ person.old)) }
     // Of a reader that nobody has read, only a refusal with status 1 reads on.
     ensures unread { OnEnd ended (λ status read_to written_to. read_to.progress ≡ Progress.Unread
-        → status ≢ 1 → (result ≡ ended) × (errors.new ≡ errors.old)) }
+        → status ≢ 1 → (result ≡ ended) × (person.new ≡ person.old)) }
     // A reader that was read to its end, or that failed, isn't read on.
     ensures ended { OnEnd ended (λ status read_to written_to. read_to.progress ≡ Progress.Ended
-        → (result ≡ ended) × (errors.new ≡ errors.old)) }
+        → (result ≡ ended) × (person.new ≡ person.old)) }
     // After any status except 0, nothing is left of an input that was begun.
     ensures dropped { OnEnd result (λ status read_to written_to. status ≢ 0
         → read_to.progress ≢ Progress.Begun) }
     // If memory ran out, nothing more is said.
-    ensures no_memory { ended ≡ Ended.NoMemory → errors.new ≡ errors.old }
+    ensures no_memory { ended ≡ Ended.NoMemory → person.new ≡ person.old }
     // Nothing else is said than that the rest is dropped.
-    ensures said { (errors.new ≡ errors.old) ⊎ Says E.contents errors.old errors.new rest_line }
+    ensures said { (person.new ≡ person.old) ⊎ Says E.contents person.old person.new rest_line }
     // If there is something to drop, it is said.
     ensures told { OnEnd ended (λ status read_to written_to. HasRest status read_to.progress
-        → Says E.contents errors.old errors.new rest_line) }
+        → Says E.contents person.old person.new rest_line) }
     // After a refusal with status 1, nothing is left of any input.
     ensures refused { OnEnd result (λ status read_to written_to. status ≡ 1
         → read_to.progress ≡ Progress.Ended) }
@@ -110,7 +110,7 @@ pub fn with_rest_dropped<R: Read + Drop, W: Drop, E: Write>(
             output,
         } => Ended::With {
             status,
-            input: at_end(status, input, errors),
+            input: at_end(status, input, person),
             output,
         },
         Ended::NoMemory => Ended::NoMemory,
@@ -118,15 +118,15 @@ pub fn with_rest_dropped<R: Read + Drop, W: Drop, E: Write>(
 }
 
 /// The reader, read to its end if it was begun and hasn't come to it, or if a run was refused before it read.
-fn at_end<R: Read, E: Write>(status: u8, input: Watched<R>, errors: &mut Messages<E>) -> Watched<R>
+fn at_end<R: Read, E: Write>(status: u8, input: Watched<R>, person: &mut Person<E>) -> Watched<R>
     ensures further { ConsumesMore (R.remaining input.input) (R.remaining result.input) }
-    ensures done { status ≡ 0 → (result ≡ input) × (errors.new ≡ errors.old) }
+    ensures done { status ≡ 0 → (result ≡ input) × (person.new ≡ person.old) }
     ensures unread { input.progress ≡ Progress.Unread → status ≢ 1
-        → (result ≡ input) × (errors.new ≡ errors.old) }
-    ensures ended { input.progress ≡ Progress.Ended → (result ≡ input) × (errors.new ≡ errors.old) }
+        → (result ≡ input) × (person.new ≡ person.old) }
+    ensures ended { input.progress ≡ Progress.Ended → (result ≡ input) × (person.new ≡ person.old) }
     ensures dropped { status ≢ 0 → result.progress ≢ Progress.Begun }
-    ensures said { (errors.new ≡ errors.old) ⊎ Says E.contents errors.old errors.new rest_line }
-    ensures told { HasRest status input.progress → Says E.contents errors.old errors.new rest_line }
+    ensures said { (person.new ≡ person.old) ⊎ Says E.contents person.old person.new rest_line }
+    ensures told { HasRest status input.progress → Says E.contents person.old person.new rest_line }
     ensures refused { status ≡ 1 → result.progress ≡ Progress.Ended }
 {
     let waits = match input.progress {
@@ -138,7 +138,7 @@ fn at_end<R: Read, E: Write>(status: u8, input: Watched<R>, errors: &mut Message
         return input;
     }
     let mut input = input;
-    errors.say(b"shamir: the rest of the input is dropped: end it with Ctrl-D\n");
+    person.say(b"shamir: the rest of the input is dropped: end it with Ctrl-D\n");
     drop_rest(&mut input);
     input
 }

@@ -1,5 +1,5 @@
 //! Commands that are ready to run.
-ghost use Rattle.std.specs.Prelude.{◌≡◌, ◌<◌, ◌≤◌, ◌↔◌, false, IfOk, IfErr, IsFalse, IsSomeAnd, Err};
+ghost use Rattle.std.specs.Prelude.{◌≡◌, ◌<◌, ◌≤◌, ◌↔◌, false, IfOk, IfErr, IsSomeAnd, Err};
 ghost use Rattle.s39_set.specs.Status.{is_enough};
 ghost use Rattle.s39_input.specs.Runs.{Runs};
 ghost use Rattle.s39_command.specs.Command.{IsInRange, text_in};
@@ -7,10 +7,7 @@ ghost use Rattle.s39_cli.specs.Outcome.{IsCursor, IsNoted, WritesNoFingerprint, 
 ghost use Rattle.s39_cli.specs.Outcome.{judged, status_of, told_in, where_done, without_mismatches};
 ghost use Rattle.s39_cli.specs.NoWork.{IsNoReissue, IsNoWork};
 
-use crate::drilling::drill_told;
-use crate::messages::Messages;
-use crate::notes::Notes;
-use crate::recovering::recover_told;
+use crate::person::Person;
 use crate::secret_text::secret_of;
 use crate::values::Secrets;
 use s39_clearing::Cleared;
@@ -18,8 +15,8 @@ use s39_command::Job;
 use s39_kdf::{BadFingerprint, NotedFingerprint, check_passphrase, parse_fingerprint};
 use s39_set::{BadCursor, BadNames, Quorum, Status, parse_names, parse_quorum};
 use s39_tool::{
-    Counting, Done, Fault, Options, Plan, PlanError, SecretForm, Watch, run_create, run_reissue,
-    run_repair, run_resplit, run_show, run_status,
+    Counting, Done, Fault, Options, Plan, PlanError, SecretForm, run_create, run_drill,
+    run_recover, run_reissue, run_repair, run_resplit, run_show, run_status,
 };
 use std::alloc::Global;
 use std::io::{Read, Write};
@@ -36,10 +33,10 @@ pub(crate) struct Creation<'a> {
 /// What a drill is of, beside the mnemonics.
 #[derive(Drop)]
 pub(crate) struct Drill<'a> {
-    pub(crate) passphrase: &'a [u8],
-    pub(crate) after: Option<Quorum>,
-    pub(crate) limit: u32,
-    pub(crate) form: SecretForm,
+    passphrase: &'a [u8],
+    after: Option<Quorum>,
+    limit: u32,
+    form: SecretForm,
     ghost some: { 1 ≤ limit },
 }
 
@@ -186,8 +183,7 @@ impl Reissue {
 }
 
 impl<'a> Work<'a> {
-    ghost use Rattle.s39_cli.specs.Said.{SaysOnceRead, early_lines, tells_last};
-    ghost use Rattle.s39_cli.specs.Seen.{SeesOnceRead, SeesWork};
+    ghost use Rattle.s39_cli.specs.Said.{SaysInRun, tells_last};
     ghost use Rattle.s39_cli.specs.Untouched.{IsAtItsEnd};
     ghost use Rattle.s39_cli.specs.Work.{HasBadPassphrase, IsWorkOf, IsWorkOutput};
 
@@ -261,8 +257,7 @@ impl<'a> Work<'a> {
 
     /// Whether its caller tells a person after it that no passphrase was used. A recovery tells that itself, before it writes.
     pub(crate) fn tells_last(&self, tells_of_none: bool) -> bool
-        ensures told { result ≡ tells_last self.now tells_of_none }
-        ensures untold { IsFalse tells_of_none → IsFalse result }
+        ensures { result ≡ tells_last self.now tells_of_none }
     {
         match self {
             Work::Recover { .. } => false,
@@ -271,30 +266,23 @@ impl<'a> Work<'a> {
     }
 
     /// Runs the command, and gives whether all is well: no quorum was refused or gives another secret than the expected one,
-    /// enough groups are complete, and one mnemonic fits each line, if the command looks for that. If a person looks on, a drill
-    /// tells first how much there is to do. A recovery tells that no passphrase was used, if the notes say so, before it writes.
-    /// `watch` is told how many quorums a drill has listed, each time that the line of one is written.
-    pub(crate) fn run<R: Read, W: Write, E: Write, P: Watch>(
+    /// enough groups are complete, and one mnemonic fits each line, if the command looks for that. A drill and a recovery tell the
+    /// person how far they are.
+    pub(crate) fn run<R: Read, W: Write, E: Write>(
         &self,
         input: &mut Counting<R>,
         output: &mut Counting<W>,
-        notes: Notes,
-        errors: &mut Messages<E>,
-        watch: &mut P,
+        person: &mut Person<E>,
     ) -> Result<bool, Fault>
         requires readable { input.old.failures < u64.MAX }
         requires writable { output.old.failures < u64.MAX }
         ensures runs { Runs R.remaining W.contents (IsWorkOutput self.now)
             input.old input.new output.old output.new result }
-        ensures said { SaysOnceRead R.remaining E.contents
-            (early_lines self.now notes.is_attended notes.tells_of_none) input.old.device result
-            errors.old errors.new }
         // Of any devices.
         ensures untouched { IsAtItsEnd self.now → status_of result ≡ 1
             → ((fault : Fault) × (result ≡ Err fault)) × (output.new ≡ output.old) }
-        ensures silent { IsFalse notes.is_attended → IsFalse notes.tells_of_none → errors.new ≡ errors.old }
-        ensures seen { SeesOnceRead P.sees R.remaining (SeesWork P.sees self.now) input.old.device result
-            watch.old watch.new }
+        ensures said { SaysInRun R.remaining E.contents person.old.terminals person.old.is_bare
+            self.now input.old.device result person.old person.new }
     {
         match self {
             Work::Show => where_done(run_show(input, output)),
@@ -310,22 +298,15 @@ impl<'a> Work<'a> {
                 passphrase,
                 form,
                 expected,
-            } => where_done(recover_told(
-                *form,
-                *expected,
-                passphrase,
+            } => where_done(run_recover(*form, *expected, passphrase, input, output, person)),
+            Work::Drill(drill) => without_mismatches(run_drill(
+                drill.form,
+                drill.passphrase,
+                drill.after.as_ref(),
+                drill.limit,
                 input,
                 output,
-                notes.tells_of_none,
-                errors,
-            )),
-            Work::Drill(drill) => without_mismatches(drill_told(
-                drill,
-                input,
-                output,
-                notes.is_attended,
-                errors,
-                watch,
+                person,
             )),
             Work::Status => with_enough(run_status(input, output)),
             Work::Reissue(reissue) => {

@@ -12,3 +12,4 @@ pub mod OneCreated
 pub mod WholeTexts
 pub mod Running
 pub mod Watching
+pub mod Told

@@ -149,7 +149,7 @@ DrillsCreated form passphrase after limit input text answer =
     (secret : List ℕ) → HoldsMnemonicsOf passphrase secret input
     → (set : List ShareFields) × IsReadAs input (Ok set) × ListsSecretOrCause form set secret after limit text answer
 
--- Within a run. Of what follows, the contracts of `start_of` and `list_from` cite `StartsAt`, `IsNext` and `WritesDrill`; no other public contract does.
+-- Within a run; no public contract cites what follows.
 
 -- what is known of listings and of outcomes
 pub record DrillLaws : Type 0 where

@@ -11,16 +11,15 @@ ghost use Rattle.s39_set.specs.ShareSet.{IsShareSet};
 ghost use Rattle.s39_backup.specs.Outcome.{AreParams, IsOutcome};
 ghost use Rattle.s39_drilling.specs.Drill.{IsNext, IsNoDrill, StartsAt, IsDrillOutput, DrillsCreated, WritesDrill};
 ghost use Rattle.s39_drilling.specs.Drill.{in_bytes, mismatch_in, mismatch_text, outcome_text, quorum_line, last_line};
-ghost use Rattle.s39_drilling.specs.Watching.{SeesListing, WritesFirst};
+ghost use Rattle.s39_drilling.specs.Watching.{SeesAll, SeesFirst, SeesListing, WritesFirst};
 ghost use Rattle.s39_input.specs.declared.output.TheConstants.{LINE_BYTES};
 ghost use Rattle.s39_input.specs.Fault.{fault_of};
-ghost use Rattle.s39_input.specs.Runs.{Runs};
+ghost use Rattle.s39_input.specs.Runs.{OfInput, Runs};
 
 use crate::laws::{created_backups_drill, drill_laws};
-use crate::watch::{Unwatched, Watch};
 use s39_backup::{Memo, Mismatch, combine_quorum, params_of};
 use s39_input::{
-    Counting, DeviceFailure, Fault, Line, Refusal, SecretForm, WriteFailed, checked_set,
+    Counting, DeviceFailure, Fault, Line, Refusal, SecretForm, Watch, WriteFailed, checked_set,
     is_unexpected, push_field, push_names, push_secret, push_text, write_text,
 };
 use s39_kdf::Bytes;
@@ -93,6 +92,9 @@ impl From<NoDrill> for Fault {
 /// passphrase isn't detected: as a rule it gives other secrets. The caller passes a `limit` of at least 1, and keeps
 /// both `failures()` below `u64::MAX`.
 ///
+/// `watch` is told of the set before the first line, unless the drill is refused. Each time that the line of a quorum is
+/// written, it is told how many are.
+///
 /// ```rust
 /// let mut input = Counting::new(
 ///     b"duckling enlarge academic academic agency result length solution fridge kidney coal \
@@ -102,17 +104,18 @@ impl From<NoDrill> for Fault {
 /// let mut text = Vec::new(rt.alloc());
 /// let mut output = Counting::new(&mut text);
 /// let form = SecretForm::Fingerprint;
-/// let done = run_drill(form, b"TREZOR", None, 1000, &mut input, &mut output)?;
+/// let done = run_drill(form, b"TREZOR", None, 1000, &mut input, &mut output, &mut ())?;
 /// assert_eq!(rt; done.mismatches, 0);
 /// assert_eq!(rt; text.as_slice(), b"0.0 df41d8fe\nend\n".as_slice());
 /// ```
-pub fn run_drill<R: Read, W: Write>(
+pub fn run_drill<R: Read, W: Write, P: Watch>(
     form: SecretForm,
     passphrase: &[u8],
     after: Option<&Quorum>,
     limit: u32,
     input: &mut Counting<R>,
     output: &mut Counting<W>,
+    watch: &mut P,
 ) -> Result<Done, Fault>
     requires some { 1 ≤ limit }
     requires readable { input.old.failures < u64.MAX }
@@ -124,16 +127,26 @@ pub fn run_drill<R: Read, W: Write>(
     ensures complete { Runs R.remaining W.contents
         (DrillsCreated form passphrase.now (option_copied after.entry) limit)
         input.old input.new output.old output.new result }
+    ensures seen { IfOk result (λ done. OfInput R.remaining input.old input.new
+        (SeesAll P.counts P.finds (option_copied after.entry) limit watch.old watch.new)) }
+    // If a write fails, it is told of some of the first quorums, whose lines are written.
+    ensures cut { IfErr result (λ fault. fault.refusal ≡ Refusal.Device DeviceFailure.Write
+        → OfInput R.remaining input.old input.new
+        (SeesFirst P.counts P.finds
+        (λ set. WritesFirst W.contents output.old output.new form set passphrase.now)
+        (option_copied after.entry) limit watch.old watch.new)) }
     // Of any devices.
     ensures untouched { IfErr result (λ fault.
-        fault.refusal ≢ Refusal.Device DeviceFailure.Write → output.new ≡ output.old) }
+        fault.refusal ≢ Refusal.Device DeviceFailure.Write
+        → (output.new ≡ output.old) × (watch.new ≡ watch.old)) }
     ensures unread { (bad : BadPassphrase)
         → result ≡ Err (fault_of (Refusal.Passphrase bad)) → input.new ≡ input.old }
 {
     created_backups_drill();
+    one_listing();
     let set = checked_set(passphrase, input)?;
     let start = start_of(&set, after)?;
-    let watch = &mut Unwatched;
+    watch.found(&set);
     Ok(list_from(form, &set, start, passphrase, limit, output, watch)?)
 }
 
@@ -144,9 +157,7 @@ pub fn run_drill<R: Read, W: Write>(
 ///
 /// - `Lack` if the shares have no quorum;
 /// - `NotAQuorum` if the given names aren't a quorum of the shares.
-///
-/// The example of `list_from` calls it.
-pub fn start_of(set: &ShareSet, after: Option<&Quorum>) -> Result<Option<Quorum>, NoDrill>
+pub(crate) fn start_of(set: &ShareSet, after: Option<&Quorum>) -> Result<Option<Quorum>, NoDrill>
     ensures is_set { IsShareSet set.now }
     ensures start { IfOk result (StartsAt set.now (option_copied after.entry)) }
     ensures refused { IfErr result (IsNoDrill set.now (option_copied after.entry)) }
@@ -161,27 +172,10 @@ pub fn start_of(set: &ShareSet, after: Option<&Quorum>) -> Result<Option<Quorum>
     }
 }
 
-/// Tries the quorums of a set from `start` on, which `start_of` gives, and writes their lines and the last line, as
-/// `run_drill` does for the set of its input. If `start` is `None`, only the last line is written. Each time that the line of
-/// a quorum is written, `watch` is told how many are.
-///
-/// If a write fails or takes no byte, a beginning of the lines is written. The caller passes a printable passphrase and a
-/// `limit` of at least 1, and keeps `failures()` below `u64::MAX`.
-///
-/// ```rust
-/// let line =
-///     b"duckling enlarge academic academic agency result length solution fridge kidney coal \
-///     piece deal husband erode duke ajar critical decision keyboard\n";
-/// let set = checked_set_in(b"TREZOR", line)?;
-/// let start = start_of(&set, None)?;
-/// let mut text = Vec::new(rt.alloc());
-/// let mut output = Counting::new(&mut text);
-/// let form = SecretForm::Fingerprint;
-/// let done = list_from(form, &set, start, b"TREZOR", 1000, &mut output, &mut Unwatched)?;
-/// assert_eq!(rt; done.mismatches, 0);
-/// assert_eq!(rt; text.as_slice(), b"0.0 df41d8fe\nend\n".as_slice());
-/// ```
-pub fn list_from<W: Write, P: Watch>(
+/// Tries the quorums of a set from `start` on, which `start_of` gives, and writes their lines and the last line. If
+/// `start` is `None`, only the last line is written. Each time that the line of a quorum is written, `watch` is told how
+/// many are.
+fn list_from<W: Write, P: Watch>(
     form: SecretForm,
     set: &ShareSet,
     start: Option<Quorum>,
@@ -199,7 +193,7 @@ pub fn list_from<W: Write, P: Watch>(
         → WritesDrill W.contents output.old form set.now passphrase.now after limit result output.new }
     ensures seen { (after : Option Names) (listed : List Names) → IsNext set.now after start
         → IsListing set.now after limit listed
-        → SeesListing P.sees
+        → SeesListing P.counts
         (WritesFirst W.contents output.old output.new form set.now passphrase.now)
         listed result watch.old watch.new }
 {
@@ -231,7 +225,7 @@ fn write_drill<W: Write, P: Watch>(
         → WritesDrill W.contents output.old form set.now passphrase.now after limit result output.new }
     ensures seen { (after : Option Names) (listed : List Names)
         → IsFirstQuorumAfter set.now after start → IsListing set.now after limit listed
-        → SeesListing P.sees
+        → SeesListing P.counts
         (WritesFirst W.contents output.old output.new form set.now passphrase.now)
         listed result watch.old watch.new }
 {

@@ -1,5 +1,5 @@
-//! The command `drill` of the program `shamir`, over readers and writers: `run_drill`. `start_of` and `list_from` do
-//! the same for a set, and tell a `Watch` how far they are. `drill_lines` does so for lines in memory, and puts the text into a slice; `drill_set` for a set.
+//! The command `drill` of the program `shamir`, over readers and writers: `run_drill`. `drill_set` does the same for a
+//! set, and puts the text into a slice.
 //!
 //! A quorum is a set of shares that meets the thresholds, while none of its proper subsets does.
 //!
@@ -11,8 +11,6 @@ pub mod laws;
 mod length_laws;
 mod listing;
 mod round_trips;
-mod watch;
 
-pub use drill::{Done, NoDrill, list_from, run_drill, start_of};
-pub use listing::{Listing, drill_lines, drill_set};
-pub use watch::{Unwatched, Watch};
+pub use drill::{Done, NoDrill, run_drill};
+pub use listing::{Listing, drill_set};

@@ -1,4 +1,4 @@
-//! The drill of lines in memory, into a slice.
+//! The drill of a set, into a slice.
 ghost use Rattle.std.specs.Prelude.{◌≡◌, ℕ, List, Option, ◌+◌, ◌-◌, ◌<◌, ◌≤◌, ◌++◌, [], All, Some, None, Ok, Err, IfOk, IfErr, IsOk, length, take, drop};
 ghost use Rattle.std.specs.Option.{option_copied};
 ghost use Rattle.s39_kdf.specs.Limits.{IsPrintable};
@@ -7,19 +7,18 @@ ghost use Rattle.s39_set.specs.Looks.{most_step_looks};
 ghost use Rattle.s39_set.specs.Quorums.{IsQuorum, IsFirstQuorumAfter};
 ghost use Rattle.s39_set.specs.ShareSet.{IsShareSet};
 ghost use Rattle.s39_backup.specs.Outcome.{AreParams};
-ghost use Rattle.s39_input.specs.Input.{whole};
-ghost use Rattle.s39_drilling.specs.Drill.{IsDrillOutput, StartsAt, WritesDrillOf, last_line};
+ghost use Rattle.s39_drilling.specs.Drill.{StartsAt, WritesDrillOf, last_line};
 ghost use Rattle.s39_input.specs.Slices.{IsInFront};
 ghost use Rattle.s39_drilling.specs.Slices.{Lists, IsTried, Fills};
 
 use crate::drill::{following, last_line, mismatch_in, outcome_of, quorum_line, start_of};
 use crate::laws::drill_laws;
 use s39_backup::{Memo, params_of};
-use s39_input::{Fault, Line, NoOutput, SecretForm, TooShort, checked_set_in, put};
+use s39_input::{Fault, Line, NoOutput, SecretForm, TooShort, put};
 use s39_set::laws::listings_join;
 use s39_set::{Looks, Quorum, ShareSet};
 
-/// What `drill_lines` put into a slice.
+/// What `drill_set` put into a slice.
 #[derive(Clone, Copy, Debug, PartialEq, Eq)]
 pub struct Listing {
     /// The length of its text in bytes.
@@ -33,56 +32,11 @@ pub struct Listing {
     pub mismatches: u32,
 }
 
-/// Tries the quorums of the lines' shares that come after a given one, or all of them if none is given. It puts what
-/// `run_drill` writes for them with this form of secrets at the front of `text`, and leaves the bytes of `text` after
-/// it unchanged.
+/// Tries the quorums of a set that come after a given one, or all of them if none is given. It puts what `run_drill`
+/// writes for them with this form of secrets at the front of `text`, and leaves the bytes of `text` after it unchanged.
 ///
 /// It lists at most `limit` quorums, and stops before the first one whose line doesn't fit together with the last line.
-/// The last line is `end`, or `more after ` and the quorum after which another call goes on. Blank lines and comments
-/// are skipped. A comment starts with `#`, after any spaces, tabs and carriage returns.
-///
-/// The first error that applies is returned, and then `text` is unchanged:
-///
-/// - `Passphrase` if a byte of the passphrase isn't printable ASCII;
-/// - the first refused line, with its number: a word error, `TooLong` if it has more than 1,024 bytes, or `Set` if its
-///   share can't join those of the lines before it;
-/// - `Lack` if the shares have no quorum;
-/// - `NotAQuorum` if the given names aren't a quorum of the shares;
-/// - `TooShort`, with the number of bytes needed, if the line of the first quorum and the last line don't fit, or, if
-///   no quorum is left, the line `end`.
-///
-/// A wrong passphrase isn't detected: as a rule it gives other secrets. The caller passes a `limit` of at least 1.
-///
-/// ```rust
-/// let line =
-///     b"duckling enlarge academic academic agency result length solution fridge kidney coal \
-///     piece deal husband erode duke ajar critical decision keyboard\n";
-/// let mut text = [0; 100];
-/// let form = SecretForm::Digits;
-/// let listing = drill_lines(form, b"TREZOR", None, 1000, line, &mut text)?;
-/// assert_eq!(rt; (listing.listed, listing.mismatches), (1, 0));
-/// assert_eq!(rt; (listing.last, listing.written), (37, 41));
-/// assert!(rt; text.starts_with(b"0.0 bb54aac4b89dc868ba37d9cc21b2cece\nend\n"));
-/// ```
-pub fn drill_lines(
-    form: SecretForm,
-    passphrase: &[u8],
-    after: Option<&Quorum>,
-    limit: u32,
-    lines: &[u8],
-    text: &mut [u8],
-) -> Result<Listing, NoOutput>
-    requires some { 1 ≤ limit }
-    ensures { Lists (λ n. IsDrillOutput form passphrase.now
-        (option_copied after.entry) n (whole lines.now))
-        limit text.old text.new result }
-{
-    let set = checked_set_in(passphrase, lines)?;
-    drill_set(form, passphrase, after, limit, &set, text)
-}
-
-/// Tries the quorums of a set that come after a given one, or all of them if none is given, and puts the text at the
-/// front of `text`, as `drill_lines` does for the lines of the set.
+/// The last line is `end`, or `more after ` and the quorum after which another call goes on.
 ///
 /// The first error that applies is returned, and then `text` is unchanged:
 ///
@@ -91,7 +45,8 @@ pub fn drill_lines(
 /// - `TooShort`, with the number of bytes needed, if the line of the first quorum and the last line don't fit, or, if
 ///   no quorum is left, the line `end`.
 ///
-/// The caller passes a printable passphrase, and a `limit` of at least 1.
+/// A wrong passphrase isn't detected: as a rule it gives other secrets. The caller passes a printable passphrase, and a
+/// `limit` of at least 1.
 ///
 /// ```rust
 /// let line =

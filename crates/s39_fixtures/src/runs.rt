@@ -2,7 +2,7 @@
 
 use crate::devices::Flushing;
 use crate::shelves::{Held, NoFiles};
-use s39_cli::{Destination, Messages, Source, Terminals, Unwatched};
+use s39_cli::{Person, Terminals};
 use std::alloc::Global;
 use std::io::{Read, Write};
 use std::test::Fail;
@@ -20,16 +20,16 @@ pub const WRITE_FAILED_LINE: &str = "shamir: 73 write failed\n";
 
 /// No device is a terminal.
 pub const NO_TERMINAL: Terminals = Terminals {
-    source: Source::Elsewhere,
-    destination: Destination::Elsewhere,
-    errors: Destination::Elsewhere,
+    input: false,
+    output: false,
+    errors: false,
 };
 
 /// Each device is a terminal.
 pub const ALL_TERMINALS: Terminals = Terminals {
-    source: Source::Terminal,
-    destination: Destination::Terminal,
-    errors: Destination::Terminal,
+    input: true,
+    output: true,
+    errors: true,
 };
 
 /// Runs the program without a terminal, and returns its exit status.
@@ -40,16 +40,13 @@ pub fn program<R: Read + Drop, W: Write + Drop, E: Write + Drop>(
     output: W,
     errors: E,
 ) -> u8 {
-    let mut errors = Messages::new(errors);
     s39_cli::program(
         &NoFiles,
         alloc,
         words,
         input,
         output,
-        &mut errors,
-        &mut Unwatched,
-        NO_TERMINAL,
+        &mut Person::new(errors, NO_TERMINAL),
     )
     .status()
 }
@@ -62,16 +59,13 @@ pub fn program_at_terminal<R: Read + Drop, W: Write + Drop, E: Write + Drop>(
     output: W,
     errors: E,
 ) -> u8 {
-    let mut errors = Messages::new(errors);
     s39_cli::program(
         &NoFiles,
         alloc,
         words,
         input,
         output,
-        &mut errors,
-        &mut Unwatched,
-        ALL_TERMINALS,
+        &mut Person::new(errors, ALL_TERMINALS),
     )
     .status()
 }
@@ -106,9 +100,7 @@ pub fn run_over(files: &[(&str, &[u8])], alloc: Global, words: &[&str], input: &
         words,
         input,
         &mut written,
-        &mut Messages::new(&mut told),
-        &mut Unwatched,
-        NO_TERMINAL,
+        &mut Person::new(&mut told, NO_TERMINAL),
     )
     .status();
     Run {

@@ -1,5 +1,5 @@
 -- Why a run stopped.
-use Rattle.std.specs.Prelude.{ℕ, suc, ◌-◌, ◌^◌, min, Some, None, Bool, true, false, Result, Ok, Err}
+use Rattle.std.specs.Prelude.{ℕ, suc, ◌-◌, ◌^◌, min, Some, None, Result, Ok, Err}
 use Rattle.s39_input.specs.declared.fault.LineRefusal.{LineRefusal}
 use Rattle.s39_input.specs.declared.fault.LineRefusal.TheVariants.{Word, Marks, Set, TooLong}
 use Rattle.s39_input.specs.declared.fault.Stop.{Stop}
@@ -55,11 +55,6 @@ cause_of (Undetermined few) = too_few_cause few
 cause_of NotExtendable = cause 67 0 0
 cause_of SameIdentifier = cause 68 0 0
 cause_of (Device failure) = device_cause_of failure
-
--- a line is refused: for what it says, for its length, or because its share can't join those before it
-abbrev pub has_line : Refusal → Bool
-has_line (Line _) = true
-has_line _ = false
 
 -- the number of the line after n others, which stays at 2^64 - 1 once it is there
 abbrev pub line_number : ℕ → ℕ

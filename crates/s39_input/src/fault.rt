@@ -122,7 +122,7 @@ pub enum Refusal {
 }
 
 impl Refusal {
-    ghost use Rattle.s39_input.specs.Fault.{cause_of, has_line};
+    ghost use Rattle.s39_input.specs.Fault.{cause_of};
 
     /// Returns the number of the refusal, 11 to 15, 17 to 19, 21 to 30, 41 to 43, 51, 52, 62, 64 to 68, or 71 to 73, and the
     /// details of the cause.
@@ -149,14 +149,6 @@ impl Refusal {
             Refusal::SameIdentifier => Cause::of(code::SAME_IDENTIFIER),
             Refusal::Device(failure) => failure.cause(),
         }
-    }
-
-    /// Returns whether a line is refused: for what it says, for its length, or because its share can't join those
-    /// before it.
-    pub fn has_line(&self) -> bool
-        ensures { result ≡ has_line self.now }
-    {
-        matches!(self, Refusal::Line(_))
     }
 }
 

@@ -4,7 +4,7 @@
 //!
 //! `Counting` wraps a reader or a writer, and counts its failed calls. A run that stops early returns a `Fault`: the
 //! refusal, with the line number if a line is refused. `Refusal::cause` gives the number of the refusal and its
-//! details.
+//! details. A run tells a `Watch` how far it is.
 //!
 //! In the examples `rt` is the runtime, or a reference to it.
 #![tactic(auto)]
@@ -23,6 +23,7 @@ mod repair;
 mod secret_form;
 mod show;
 mod slices;
+mod watch;
 
 pub use collect::{checked_set, checked_set_in, read_set, set_in};
 pub use device::Counting;
@@ -40,3 +41,4 @@ pub use s39_kdf::SecretForm;
 pub use secret_form::{is_unexpected, push_secret};
 pub use show::run_show;
 pub use slices::{NoOutput, TooShort, WrittenLines, put};
+pub use watch::Watch;

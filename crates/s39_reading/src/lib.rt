@@ -1,5 +1,5 @@
 //! The commands `recover` and `status` of the program `shamir`, over readers and writers: `run_recover` and
-//! `run_status`. `recover_secret` and `status_lines` do the same for lines in memory, `recover_set` and `set_status` for a set.
+//! `run_status`. `status_lines` does the same for lines in memory, and `recover_set` and `set_status` for a set.
 //! `exponent_of` gives the iteration exponent of a set. `encrypted_in` gives the encrypted secret of lines, and
 //! `decrypt_secret` decrypts it.
 //!
@@ -17,6 +17,6 @@ mod status;
 
 pub use encrypted::{EncryptedSecret, decrypt_secret, encrypted_in};
 pub use exponent::exponent_of;
-pub use recover::{recover_secret, recover_set, recovered_line, run_recover};
+pub use recover::{recover_set, run_recover};
 pub use rounds::decrypt_round;
 pub use status::{WrittenStatus, run_status, set_status, status_lines};

@@ -2,7 +2,6 @@
 ghost use Rattle.std.specs.Prelude.{◌≡◌, ◌≢◌, ◌+◌, ◌<◌, [], Ok, Err, IfOk, IfErr};
 ghost use Rattle.s39_kdf.specs.declared.limits.BadPassphrase.{BadPassphrase};
 ghost use Rattle.s39_input.specs.Fault.{fault_of, read_failures, write_failures};
-ghost use Rattle.s39_input.specs.Input.{whole};
 ghost use Rattle.s39_reading.specs.Recover.{as_expected, IsRecovered, IsRecoverOutput, secret_line};
 ghost use Rattle.s39_reading.specs.Recover.{RecoversCreated};
 ghost use Rattle.s39_input.specs.Runs.{OfInput, Runs};
@@ -10,8 +9,8 @@ ghost use Rattle.s39_input.specs.Runs.{OfInput, Runs};
 use crate::laws::created_backups_recover;
 use s39_backup::recover_quorum;
 use s39_input::{
-    Counting, DeviceFailure, Fault, Line, Refusal, SecretForm, checked_set, checked_set_in,
-    push_secret, write_text,
+    Counting, DeviceFailure, Fault, Line, Refusal, SecretForm, Watch, checked_set, push_secret,
+    write_text,
 };
 use s39_kdf::{Bytes, NotedFingerprint};
 use s39_set::{ShareSet, first};
@@ -38,6 +37,8 @@ use std::io::{Read, Write};
 /// expected fingerprint, a wrong passphrase isn't detected: as a rule it gives another secret. The caller keeps both
 /// `failures()` below `u64::MAX`.
 ///
+/// `watch` is told before the secret is written, unless the recovery is refused.
+///
 /// ```rust
 /// let mut input = Counting::new(
 ///     b"duckling enlarge academic academic agency result length solution fridge kidney coal \
@@ -46,15 +47,16 @@ use std::io::{Read, Write};
 /// );
 /// let mut text = Vec::new(rt.alloc());
 /// let mut output = Counting::new(&mut text);
-/// run_recover(SecretForm::Digits, None, b"TREZOR", &mut input, &mut output)?;
+/// run_recover(SecretForm::Digits, None, b"TREZOR", &mut input, &mut output, &mut ())?;
 /// assert!(rt; text.starts_with(b"bb54aac4b89dc868ba37d9cc21b2cece\n"));
 /// ```
-pub fn run_recover<R: Read, W: Write>(
+pub fn run_recover<R: Read, W: Write, P: Watch>(
     form: SecretForm,
     expected: Option<NotedFingerprint>,
     passphrase: &[u8],
     input: &mut Counting<R>,
     output: &mut Counting<W>,
+    watch: &mut P,
 ) -> Result<(), Fault>
     requires readable { input.old.failures < u64.MAX }
     requires writable { output.old.failures < u64.MAX }
@@ -65,20 +67,24 @@ pub fn run_recover<R: Read, W: Write>(
     ensures created { Runs R.remaining W.contents (RecoversCreated form expected passphrase.now)
         input.old input.new output.old output.new result }
     // Of any devices.
+    ensures told { IfOk result (λ _. P.awaits watch.old watch.new) }
+    ensures cut { IfErr result (λ fault. fault.refusal ≡ Refusal.Device DeviceFailure.Write
+        → P.awaits watch.old watch.new) }
     ensures untouched { IfErr result (λ fault.
-        fault.refusal ≢ Refusal.Device DeviceFailure.Write → output.new ≡ output.old) }
+        fault.refusal ≢ Refusal.Device DeviceFailure.Write
+        → (output.new ≡ output.old) × (watch.new ≡ watch.old)) }
     ensures unread { (bad : BadPassphrase)
         → result ≡ Err (fault_of (Refusal.Passphrase bad)) → input.new ≡ input.old }
 {
     created_backups_recover();
     let line = recovered_line(form, expected, passphrase, input)?;
+    watch.about_to_write();
     write_text(output, line.as_slice())?;
     Ok(())
 }
 
-/// Returns the line that `run_recover` writes for an input, or the fault for which it writes nothing. So a caller can do
-/// something before the secret is out. The caller keeps `failures()` below `u64::MAX`.
-pub fn recovered_line<R: Read>(
+/// The line that `run_recover` writes for an input, or the fault for which it writes nothing.
+fn recovered_line<R: Read>(
     form: SecretForm,
     expected: Option<NotedFingerprint>,
     passphrase: &[u8],
@@ -99,15 +105,11 @@ pub fn recovered_line<R: Read>(
     Ok(secret_line(form, &secret))
 }
 
-/// Returns the secret that the first quorum (`s39_set::first`) of the lines' shares recovers with the passphrase. It is
-/// the secret whose digits `run_recover` writes for these lines. Blank lines and comments are skipped. A comment starts
-/// with `#`, after any spaces, tabs and carriage returns.
+/// Returns the secret that the first quorum (`s39_set::first`) of a set recovers with the passphrase. It is the secret
+/// whose digits `run_recover` writes for the set of its input.
 ///
 /// The first error that applies is returned:
 ///
-/// - `Passphrase` if a byte of the passphrase isn't printable ASCII;
-/// - the first refused line, with its number: a word error, `TooLong` if it has more than 1,024 bytes, or `Set` if its
-///   share can't join those of the lines before it;
 /// - `Lack` if the shares have no quorum;
 /// - `DigestMismatch` if a digest of the first quorum doesn't match;
 /// - `OtherSecret` if a fingerprint is expected that the secret doesn't have.
@@ -118,43 +120,12 @@ pub fn recovered_line<R: Read>(
 /// let line =
 ///     b"duckling enlarge academic academic agency result length solution fridge kidney coal \
 ///     piece deal husband erode duke ajar critical decision keyboard\n";
-/// let secret = recover_secret(None, b"TREZOR", line)?;
-/// assert!(rt; secret.starts_with(b"\xbb\x54\xaa\xc4\xb8\x9d\xc8\x68"));
-/// let expected = Some(parse_fingerprint(b"df41d8fe")?);
-/// let fault = recover_secret(expected, b"trezor", line).err();
-/// assert_eq!(rt; fault.map(|fault| fault.refusal.cause().code), Some(52));
-/// ```
-pub fn recover_secret(
-    expected: Option<NotedFingerprint>,
-    passphrase: &[u8],
-    lines: &[u8],
-) -> Result<Bytes, Fault>
-    ensures secret { IfOk result (λ secret.
-        IsRecoverOutput SecretForm.Digits expected passphrase.now (whole lines.now)
-        (secret_line SecretForm.Digits secret.items) (Ok tt)) }
-    ensures refused { IfErr result (λ fault.
-        IsRecoverOutput SecretForm.Digits expected passphrase.now (whole lines.now) [] (Err fault)) }
-{
-    let set = checked_set_in(passphrase, lines)?;
-    recover_set(expected, passphrase, &set)
-}
-
-/// Returns the secret that the first quorum (`s39_set::first`) of a set recovers with the passphrase, as `recover_secret`
-/// does for the lines of the set.
-///
-/// The first error that applies is returned:
-///
-/// - `Lack` if the shares have no quorum;
-/// - `DigestMismatch` if a digest of the first quorum doesn't match;
-/// - `OtherSecret` if a fingerprint is expected that the secret doesn't have.
-///
-/// ```rust
-/// let line =
-///     b"duckling enlarge academic academic agency result length solution fridge kidney coal \
-///     piece deal husband erode duke ajar critical decision keyboard\n";
 /// let set = checked_set_in(b"TREZOR", line)?;
 /// let secret = recover_set(None, b"TREZOR", &set)?;
 /// assert!(rt; secret.starts_with(b"\xbb\x54\xaa\xc4\xb8\x9d\xc8\x68"));
+/// let expected = Some(parse_fingerprint(b"df41d8fe")?);
+/// let fault = recover_set(expected, b"trezor", &set).err();
+/// assert_eq!(rt; fault.map(|fault| fault.refusal.cause().code), Some(52));
 /// ```
 pub fn recover_set(
     expected: Option<NotedFingerprint>,

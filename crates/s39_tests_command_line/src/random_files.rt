@@ -3,7 +3,7 @@
 use crate::command_line::{NONE, call, expect_calls, expect_refusals};
 use crate::expect::equal;
 use crate::value_files::expect_bad_values;
-use s39_cli::{Messages, Unwatched, program};
+use s39_cli::{Person, program};
 use s39_command::{BadValues, Call, Job};
 use s39_fixtures::NO_TERMINAL;
 use s39_fixtures::shelves::Halted;
@@ -144,9 +144,7 @@ fn tries_only_an_interrupted_read_again(rt: HostRuntime) {
             &["shamir", "resplit", "1of1", "--random-file", "f"],
             SHARE.as_bytes(),
             &mut written,
-            &mut Messages::new(Vec::new(alloc)),
-            &mut Unwatched,
-            NO_TERMINAL,
+            &mut Person::new(Vec::new(alloc), NO_TERMINAL),
         )
         .status();
         equal(&rt, status, wanted);

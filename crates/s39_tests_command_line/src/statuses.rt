@@ -1,11 +1,11 @@
 //! Exit statuses: help, the version, refused command lines, flushing, a failing standard error, and no memory.
 
 use crate::expect::equal;
-use s39_cli::{Messages, no_words};
+use s39_cli::{Person, no_words};
 use s39_fixtures::devices::Full;
 use s39_fixtures::{
-    ONE_OF_ONE, ONE_OF_ONE_BAD_CHECKSUM, SHOW, SHOWN, WRITE_FAILED_LINE, expect_flushed,
-    expect_run, program,
+    NO_TERMINAL, ONE_OF_ONE, ONE_OF_ONE_BAD_CHECKSUM, SHOW, SHOWN, WRITE_FAILED_LINE,
+    expect_flushed, expect_run, program,
 };
 use std::alloc::Global;
 use std::io;
@@ -326,7 +326,10 @@ fn says_why_there_are_no_words(rt: HostRuntime) {
         let mut told = Vec::new(alloc);
         equal(
             &rt,
-            no_words(&io::Error::from(kind), &mut Messages::new(&mut told)),
+            no_words(
+                &io::Error::from(kind),
+                &mut Person::new(&mut told, NO_TERMINAL),
+            ),
             status,
         );
         equal(&rt, told.as_slice(), message);

@@ -2,7 +2,7 @@
 
 use crate::command_line::{NONE, expect_calls, expect_refusals, passphrase, secret};
 use crate::expect::equal;
-use s39_cli::{Messages, Unwatched, program};
+use s39_cli::{Person, program};
 use s39_command::{BadValues, Call, Job, NoJob, Texts, read_words};
 use s39_fixtures::shelves::Halted;
 use s39_fixtures::{NO_TERMINAL, ONE_OF_ONE, ONE_OF_ONE_SECRET, expect_over, run_on};
@@ -400,9 +400,7 @@ fn tries_only_an_interrupted_read_of_a_file_again(rt: HostRuntime) {
             &["shamir", "recover", "--passphrase-file", "f"],
             ONE_OF_ONE.as_bytes(),
             &mut written,
-            &mut Messages::new(Vec::new(alloc)),
-            &mut Unwatched,
-            NO_TERMINAL,
+            &mut Person::new(Vec::new(alloc), NO_TERMINAL),
         )
         .status();
         equal(&rt, status, wanted);

@@ -102,7 +102,9 @@ pub fn outcome_of<R: Read + Drop, W: Write + Drop>(
             b"TREZOR",
             &mut input,
             &mut output,
-        ).map(|()| 0),
+            &mut (),
+        )
+        .map(|()| 0),
         Command::Drill => run_drill(
             SecretForm::Digits,
             b"TREZOR",
@@ -110,6 +112,7 @@ pub fn outcome_of<R: Read + Drop, W: Write + Drop>(
             1000,
             &mut input,
             &mut output,
+            &mut (),
         )
         .map(|Done { mismatches }| mismatches),
         Command::Repair => run_repair(&mut input, &mut output).map(|is_one| u32::from(!is_one)),

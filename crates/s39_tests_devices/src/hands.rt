@@ -2,7 +2,6 @@
 //! asked for before the line is taken.
 
 use crate::expect::{equal, equal_for};
-use s39_cli::Destination;
 use s39_fixtures::devices::{
     FailingAtFirst, Filling, Flushing, Full, Interrupted, SlowLine, Source,
 };
@@ -47,18 +46,17 @@ fn expect_calls(
     rt: &impl Abort,
     alloc: Global,
     interruptions: usize,
-    case: (Destination, &[&str], &str),
+    case: (bool, &[&str], &str),
     wanted: (&str, usize),
 ) {
-    let (destination, words, input) = case;
+    let (is_terminal, words, input) = case;
     let (output, calls) = wanted;
     let mut device = Interrupted::new(alloc, interruptions);
     let told = Vec::new(alloc);
-    let status = match destination {
-        Destination::Terminal => {
-            program_at_terminal(alloc, words, input.as_bytes(), &mut device, told)
-        }
-        Destination::Elsewhere => program(alloc, words, input.as_bytes(), &mut device, told),
+    let status = if is_terminal {
+        program_at_terminal(alloc, words, input.as_bytes(), &mut device, told)
+    } else {
+        program(alloc, words, input.as_bytes(), &mut device, told)
     };
     equal_for(rt, words, (status, device.calls), (0, calls));
     equal_for(rt, words, device.bytes.as_slice(), output.as_bytes());
@@ -76,24 +74,12 @@ fn expect_pieces(
     let lost = lines(alloc, &[ONE_OF_ONE_TWO_WORDS_LOST, ONE_OF_ONE])?;
     let five = lines(alloc, &FIVE)?;
     let drilled = drilled(alloc)?;
-    let cases: [((Destination, &[&str], &str), &str); 5] = [
-        (
-            (Destination::Elsewhere, &SHOW, two.as_str()),
-            shown.as_str(),
-        ),
-        ((Destination::Terminal, &SHOW, two.as_str()), shown.as_str()),
-        (
-            (Destination::Elsewhere, &REPAIR, lost.as_str()),
-            two.as_str(),
-        ),
-        (
-            (Destination::Terminal, &REPAIR, lost.as_str()),
-            two.as_str(),
-        ),
-        (
-            (Destination::Elsewhere, &DRILL, five.as_str()),
-            drilled.as_str(),
-        ),
+    let cases: [((bool, &[&str], &str), &str); 5] = [
+        ((false, &SHOW, two.as_str()), shown.as_str()),
+        ((true, &SHOW, two.as_str()), shown.as_str()),
+        ((false, &REPAIR, lost.as_str()), two.as_str()),
+        ((true, &REPAIR, lost.as_str()), two.as_str()),
+        ((false, &DRILL, five.as_str()), drilled.as_str()),
     ];
     for ((case, output), calls) in cases.into_iter().zip(calls) {
         expect_calls(rt, alloc, interruptions, case, (output, calls));

@@ -1,6 +1,6 @@
 //! Runs that tell a person something. All have devices of the same types, so the program is compiled for them once.
 
-use s39_cli::{Destination, DrillProgress, Messages, Source, Terminals, program};
+use s39_cli::{Person, Terminals, program};
 use s39_fixtures::devices::{FailingAtFirst, Full};
 use s39_fixtures::shelves::Held;
 use std::alloc::Global;
@@ -9,9 +9,9 @@ use std::io::{ErrorKind, Write};
 
 /// Only messages go to a terminal.
 pub const TOLD: Terminals = Terminals {
-    source: Source::Elsewhere,
-    destination: Destination::Elsewhere,
-    errors: Destination::Terminal,
+    input: false,
+    output: false,
+    errors: true,
 };
 
 /// What a person is told on.
@@ -64,14 +64,12 @@ impl Write for Screen<'_> {
     }
 }
 
-/// Runs the words at these terminals over a file `f`, and returns the status. Messages go to one screen, and how far a drill is to
-/// another.
+/// Runs the words at these terminals over a file `f`, and returns the status.
 pub fn run(
     alloc: Global,
     (words, input, terminals): (&[&str], &str, Terminals),
     output: &mut Vec<u8>,
-    errors: &mut Screen<'_>,
-    progress: &mut Screen<'_>,
+    screen: &mut Screen<'_>,
 ) -> u8 {
     let shelf = Held {
         files: &[("f", b"TREZOR\n")],
@@ -82,9 +80,7 @@ pub fn run(
         words,
         input.as_bytes(),
         output,
-        &mut Messages::new(errors),
-        &mut DrillProgress::new(progress, terminals),
-        terminals,
+        &mut Person::new(screen, terminals),
     )
     .status()
 }

@@ -2,7 +2,7 @@
 
 use crate::expect::{equal, equal_for, holds_for};
 use crate::person::{Screen, TOLD, run};
-use s39_cli::{Destination, Source, Terminals};
+use s39_cli::Terminals;
 use s39_fixtures::{
     FIVE, NO_TERMINAL, ONE_OF_ONE, ONE_OF_ONE_BAD_CHECKSUM, TWO_NEEDED_MEMBER_0,
     TWO_NEEDED_MEMBER_2, forged, lines,
@@ -19,6 +19,8 @@ const BARE: &str = "shamir: no passphrase was used: a backup with one gives anot
 
 const ONE: &str = "shamir: number of quorums: 1\n";
 
+const LISTED: &str = "shamir: quorums listed: 1\n";
+
 const SEVEN: &str = "shamir: number of quorums: 7\n";
 
 const PLAN_FORM: &str =
@@ -32,16 +34,16 @@ const NO_SECRET: &str =
 
 /// Only the input comes from a terminal.
 const TYPED: Terminals = Terminals {
-    source: Source::Terminal,
-    destination: Destination::Elsewhere,
-    errors: Destination::Elsewhere,
+    input: true,
+    output: false,
+    errors: false,
 };
 
 /// Only the output goes to a terminal.
 const SEEN: Terminals = Terminals {
-    source: Source::Elsewhere,
-    destination: Destination::Terminal,
-    errors: Destination::Elsewhere,
+    input: false,
+    output: true,
+    errors: false,
 };
 
 /// The words at these terminals say these lines, one after another, with this status.
@@ -52,15 +54,9 @@ fn expect_said(
     wanted: &[&str],
     status: u8,
 ) -> Result<(), Fail> {
-    let (mut said, mut progress) = (Screen::new(alloc), Screen::Full);
+    let mut said = Screen::new(alloc);
     let run_of = (words, input, terminals);
-    let answer = run(
-        alloc,
-        run_of,
-        &mut Vec::new(alloc),
-        &mut said,
-        &mut progress,
-    );
+    let answer = run(alloc, run_of, &mut Vec::new(alloc), &mut said);
     let mut all = String::new(alloc);
     for line in wanted {
         all.push_str(line)?;
@@ -74,18 +70,18 @@ fn expect_said(
 fn asks_for_mnemonics_at_a_terminal(rt: HostRuntime) -> Result<(), Fail> {
     let alloc = rt.alloc();
     let one = lines(alloc, &[ONE_OF_ONE])?;
-    let commands: [(&[&str], &str); 6] = [
-        (&["shamir", "show"], ""),
-        (&["shamir", "recover", "--passphrase", "TREZOR"], ""),
-        (&["shamir", "drill", "--passphrase="], ONE),
-        (&["shamir", "status"], ""),
-        (&["shamir", "reissue", "1of1", "0.0"], ""),
-        (&["shamir", "repair"], ""),
+    let commands: [(&[&str], &str, &str); 6] = [
+        (&["shamir", "show"], "", ""),
+        (&["shamir", "recover", "--passphrase", "TREZOR"], "", ""),
+        (&["shamir", "drill", "--passphrase="], ONE, LISTED),
+        (&["shamir", "status"], "", ""),
+        (&["shamir", "reissue", "1of1", "0.0"], "", ""),
+        (&["shamir", "repair"], "", ""),
     ];
-    for (words, told) in commands {
+    for (words, told, listed) in commands {
         expect_said(&rt, alloc, (words, &one, TYPED), &[TYPING, told], 0)?;
         expect_said(&rt, alloc, (words, &one, SEEN), &[told], 0)?;
-        expect_said(&rt, alloc, (words, &one, TOLD), &[told], 0)?;
+        expect_said(&rt, alloc, (words, &one, TOLD), &[told, listed], 0)?;
         expect_said(&rt, alloc, (words, &one, NO_TERMINAL), &[], 0)?;
     }
     Ok(())
@@ -138,11 +134,11 @@ fn tells_that_no_passphrase_was_used(rt: HostRuntime) -> Result<(), Fail> {
     let alloc = rt.alloc();
     let one = lines(alloc, &[ONE_OF_ONE])?;
     let five = lines(alloc, &FIVE)?;
-    for (command, count) in [("recover", ""), ("drill", ONE)] {
+    for (command, count, listed) in [("recover", "", ""), ("drill", ONE, LISTED)] {
         let bare = ["shamir", command];
         expect_said(&rt, alloc, (&bare, &one, TYPED), &[TYPING, count, BARE], 0)?;
         expect_said(&rt, alloc, (&bare, &one, SEEN), &[count, BARE], 0)?;
-        expect_said(&rt, alloc, (&bare, &one, TOLD), &[count, BARE], 0)?;
+        expect_said(&rt, alloc, (&bare, &one, TOLD), &[count, listed, BARE], 0)?;
         expect_said(&rt, alloc, (&bare, &one, NO_TERMINAL), &[], 0)?;
         let told = ["shamir", command, "--fingerprint"];
         expect_said(&rt, alloc, (&told, &one, SEEN), &[count, BARE], 0)?;
@@ -207,7 +203,6 @@ fn tells_how_many_quorums_a_set_has(rt: HostRuntime) -> Result<(), Fail> {
     ];
     for (words, told, status) in cases {
         expect_said(&rt, alloc, (words, &five, SEEN), &[told], status)?;
-        expect_said(&rt, alloc, (words, &five, TOLD), &[told], status)?;
         expect_said(&rt, alloc, (words, &five, TYPED), &[TYPING, told], status)?;
     }
     let quiet = ["shamir", "drill", "--passphrase="];
@@ -291,18 +286,12 @@ fn keeps_its_answer_where_nothing_can_be_said(rt: HostRuntime) -> Result<(), Fai
     ] {
         let mut all = Vec::new(alloc);
         let run_of = (words, input, TYPED);
-        let told = run(
-            alloc,
-            run_of,
-            &mut all,
-            &mut Screen::new(alloc),
-            &mut Screen::Full,
-        );
+        let told = run(alloc, run_of, &mut all, &mut Screen::new(alloc));
         equal(&rt, (told, all.is_empty()), (0, false));
         // The first line fails, and the lines behind it are said. Or no line is taken.
         for (mut errors, said) in [(Screen::after(1, alloc), calls), (Screen::Full, 0)] {
             let mut output = Vec::new(alloc);
-            let status = run(alloc, run_of, &mut output, &mut errors, &mut Screen::Full);
+            let status = run(alloc, run_of, &mut output, &mut errors);
             equal(&rt, (status, errors.calls()), (0, said));
             equal(&rt, output.as_slice(), all.as_slice());
         }
@@ -349,7 +338,7 @@ fn says_a_refusal_in_one_write(rt: HostRuntime) -> Result<(), Fail> {
     for (words, input) in cases {
         let (mut errors, mut output) = (Screen::new(alloc), Vec::new(alloc));
         let run_of = (words, input, NO_TERMINAL);
-        let status = run(alloc, run_of, &mut output, &mut errors, &mut Screen::Full);
+        let status = run(alloc, run_of, &mut output, &mut errors);
         holds_for(&rt, words, status != 0 && errors.calls() == 1);
         holds_for(&rt, words, errors.text().ends_with(b"\n"));
     }

@@ -1,7 +1,7 @@
 //! A terminal: what is typed behind a fault is dropped, and random bytes aren't typed.
 
 use crate::expect::{equal, equal_for};
-use s39_cli::{Destination, Messages, Terminals, Unwatched, Watched, program, with_rest_dropped};
+use s39_cli::{Person, Terminals, Watched, program, with_rest_dropped};
 use s39_fixtures::devices::{Full, Halting, Source};
 use s39_fixtures::shelves::NoFiles;
 use s39_fixtures::{
@@ -15,9 +15,9 @@ const ALL: usize = usize::MAX;
 
 /// Only the input comes from a terminal.
 const TYPED: Terminals = Terminals {
-    source: s39_cli::Source::Terminal,
-    destination: Destination::Elsewhere,
-    errors: Destination::Elsewhere,
+    input: true,
+    output: false,
+    errors: false,
 };
 
 /// Said before mnemonics are typed.
@@ -34,18 +34,16 @@ fn expect_reads(
 ) {
     let mut device = Source::new(input.as_bytes(), piece, good_calls);
     let mut said = Vec::new(alloc);
-    let errors = &mut Messages::new(&mut said);
+    let person = &mut Person::new(&mut said, TYPED);
     let ended = program(
         &NoFiles,
         alloc,
         words,
         Watched::new(&mut device),
         Vec::new(alloc),
-        errors,
-        &mut Unwatched,
-        TYPED,
+        person,
     );
-    let answered = with_rest_dropped(ended, errors).status();
+    let answered = with_rest_dropped(ended, person).status();
     equal_for(rt, words, (answered, device.calls), (status, calls));
     let said = said.as_slice();
     equal_for(
@@ -113,18 +111,16 @@ fn drops_what_is_typed_behind_a_failed_write(rt: HostRuntime) -> Result<(), Fail
     let two = lines(alloc, &[ONE_OF_ONE, ONE_OF_ONE])?;
     let mut device = Source::new(two.as_bytes(), ONE_OF_ONE.len() + 1, ALL);
     let mut said = Vec::new(alloc);
-    let errors = &mut Messages::new(&mut said);
+    let person = &mut Person::new(&mut said, ALL_TERMINALS);
     let ended = program(
         &NoFiles,
         alloc,
         &["shamir", "show"],
         Watched::new(&mut device),
         Full,
-        errors,
-        &mut Unwatched,
-        ALL_TERMINALS,
+        person,
     );
-    let status = with_rest_dropped(ended, errors).status();
+    let status = with_rest_dropped(ended, person).status();
     equal(&rt, (status, device.calls), (3, 3));
     let told = "shamir: 73 write failed
 shamir: the rest of the input is dropped: end it with Ctrl-D\n";
@@ -142,18 +138,16 @@ fn drops_what_is_typed_after_an_interruption(rt: HostRuntime) -> Result<(), Fail
     let refused = lines(alloc, &["ducklin", ONE_OF_ONE])?;
     let mut device = Halting::new(refused.as_bytes(), 8);
     let mut said = Vec::new(alloc);
-    let errors = &mut Messages::new(&mut said);
+    let person = &mut Person::new(&mut said, TYPED);
     let ended = program(
         &NoFiles,
         alloc,
         &RECOVER,
         Watched::new(&mut device),
         Vec::new(alloc),
-        errors,
-        &mut Unwatched,
-        TYPED,
+        person,
     );
-    let status = with_rest_dropped(ended, errors).status();
+    let status = with_rest_dropped(ended, person).status();
     // Each piece takes two calls, the first of which is interrupted, except for the first piece. The last call gives no byte.
     let pieces = refused.len().div_ceil(8);
     equal(&rt, (status, device.calls), (1, 2 * pieces + 1));

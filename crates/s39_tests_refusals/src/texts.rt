@@ -15,7 +15,10 @@ use std::test::Fail;
 
 /// The refusal of a run has this text, with line 7 where it has a line.
 fn expect_text(rt: &impl Abort, alloc: Global, refusal: Refusal, text: &str) -> Result<(), Fail> {
-    let line = if refusal.has_line() { Some(7) } else { None };
+    let line = match refusal {
+        Refusal::Line(_) => Some(7),
+        _ => None,
+    };
     let told = format!(in alloc; "{}", FaultText::of(line, refusal.cause()))?;
     let wanted = format!(in alloc; "shamir: {text}")?;
     equal(rt, told.as_str(), wanted.as_str());

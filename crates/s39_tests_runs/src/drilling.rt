@@ -1,7 +1,7 @@
 //! The examples of the doc comments of `s39_drilling`, line for line. The values come from published vectors, or from a plain reading of
 //! the standard in Python.
-use crate::expect::{equal, holds};
-use s39_drilling::{Unwatched, drill_lines, drill_set, list_from, run_drill, start_of};
+use crate::expect::equal;
+use s39_drilling::{drill_set, run_drill};
 use s39_input::{Counting, SecretForm, checked_set_in};
 use std::alloc::AllocGlobal;
 use std::process::Abort;
@@ -21,42 +21,17 @@ fn drills(rt: &(impl Abort + AllocGlobal)) -> Result<(), Fail> {
     let mut text = Vec::new(rt.alloc());
     let mut output = Counting::new(&mut text);
     let form = SecretForm::Fingerprint;
-    let done = run_drill(form, b"TREZOR", None, 1000, &mut input, &mut output)?;
-    equal(rt, done.mismatches, 0);
-    equal(rt, text.as_slice(), b"0.0 df41d8fe\nend\n".as_slice());
-
-    let line =
-        b"duckling enlarge academic academic agency result length solution fridge kidney coal \
-        piece deal husband erode duke ajar critical decision keyboard\n";
-    let set = checked_set_in(b"TREZOR", line)?;
-    let start = start_of(&set, None)?;
-    let mut text = Vec::new(rt.alloc());
-    let mut output = Counting::new(&mut text);
-    let form = SecretForm::Fingerprint;
-    let done = list_from(
+    let done = run_drill(
         form,
-        &set,
-        start,
         b"TREZOR",
+        None,
         1000,
+        &mut input,
         &mut output,
-        &mut Unwatched,
+        &mut (),
     )?;
     equal(rt, done.mismatches, 0);
     equal(rt, text.as_slice(), b"0.0 df41d8fe\nend\n".as_slice());
-
-    let line =
-        b"duckling enlarge academic academic agency result length solution fridge kidney coal \
-        piece deal husband erode duke ajar critical decision keyboard\n";
-    let mut text = [0; 100];
-    let form = SecretForm::Digits;
-    let listing = drill_lines(form, b"TREZOR", None, 1000, line, &mut text)?;
-    equal(rt, (listing.listed, listing.mismatches), (1, 0));
-    equal(rt, (listing.last, listing.written), (37, 41));
-    holds(
-        rt,
-        text.starts_with(b"0.0 bb54aac4b89dc868ba37d9cc21b2cece\nend\n"),
-    );
 
     let line =
         b"duckling enlarge academic academic agency result length solution fridge kidney coal \

@@ -4,8 +4,8 @@ use crate::expect::{equal, holds};
 use s39_input::{Counting, SecretForm, checked_set_in};
 use s39_kdf::{Params, parse_fingerprint};
 use s39_reading::{
-    decrypt_secret, encrypted_in, exponent_of, recover_secret, recover_set, run_recover,
-    run_status, set_status, status_lines,
+    decrypt_secret, encrypted_in, exponent_of, recover_set, run_recover, run_status, set_status,
+    status_lines,
 };
 use std::alloc::AllocGlobal;
 use std::process::Abort;
@@ -27,17 +27,15 @@ fn recoveries(rt: &(impl Abort + AllocGlobal)) -> Result<(), Fail> {
     );
     let mut text = Vec::new(rt.alloc());
     let mut output = Counting::new(&mut text);
-    run_recover(SecretForm::Digits, None, b"TREZOR", &mut input, &mut output)?;
+    run_recover(
+        SecretForm::Digits,
+        None,
+        b"TREZOR",
+        &mut input,
+        &mut output,
+        &mut (),
+    )?;
     holds(rt, text.starts_with(b"bb54aac4b89dc868ba37d9cc21b2cece\n"));
-
-    let line =
-        b"duckling enlarge academic academic agency result length solution fridge kidney coal \
-        piece deal husband erode duke ajar critical decision keyboard\n";
-    let secret = recover_secret(None, b"TREZOR", line)?;
-    holds(rt, secret.starts_with(b"\xbb\x54\xaa\xc4\xb8\x9d\xc8\x68"));
-    let expected = Some(parse_fingerprint(b"df41d8fe")?);
-    let fault = recover_secret(expected, b"trezor", line).err();
-    equal(rt, fault.map(|fault| fault.refusal.cause().code), Some(52));
     Ok(())
 }
 
@@ -111,6 +109,9 @@ fn sets(rt: &impl Abort) -> Result<(), Fail> {
     let set = checked_set_in(b"TREZOR", line)?;
     let secret = recover_set(None, b"TREZOR", &set)?;
     holds(rt, secret.starts_with(b"\xbb\x54\xaa\xc4\xb8\x9d\xc8\x68"));
+    let expected = Some(parse_fingerprint(b"df41d8fe")?);
+    let fault = recover_set(expected, b"trezor", &set).err();
+    equal(rt, fault.map(|fault| fault.refusal.cause().code), Some(52));
 
     let line =
         b"duckling enlarge academic academic agency result length solution fridge kidney coal \

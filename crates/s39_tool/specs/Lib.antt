@@ -12,6 +12,7 @@ pub use Rattle.s39_backup.specs.TwoShort
 pub use Rattle.s39_creating.specs.Reissue as ReissueOutput
 pub use Rattle.s39_creating.specs.Resplit as ResplitOutput
 pub use Rattle.s39_drilling.specs.Drill
+pub use Rattle.s39_drilling.specs.Watching
 pub use Rattle.s39_input.specs.Create
 pub use Rattle.s39_input.specs.Device
 pub use Rattle.s39_input.specs.Fault
@@ -22,3 +23,6 @@ pub use Rattle.s39_input.specs.SecretForm
 pub use Rattle.s39_input.specs.Show
 pub use Rattle.s39_reading.specs.Recover
 pub use Rattle.s39_reading.specs.Status
+pub use Rattle.s39_set.specs.Looks
+pub use Rattle.s39_set.specs.Quorums
+pub use Rattle.s39_split.specs.Fitting

@@ -2,12 +2,9 @@
 #![tactic(auto)]
 
 use s39_clearing::clear_stack;
-use s39_cli::{
-    Destination, DrillProgress, Messages, Source, SystemFiles, Terminals, Watched, no_words,
-    program, with_rest_dropped,
-};
+use s39_cli::{Person, SystemFiles, Terminals, Watched, no_words, program, with_rest_dropped};
 use std::alloc::{AllocError, Global};
-use std::io::IsTerminal;
+use std::io::{IsTerminal, Write};
 use std::process::ExitCode;
 use std::{env, io};
 
@@ -22,57 +19,35 @@ fn texts<'a>(alloc: Global, arguments: &'a [String]) -> Result<Vec<&'a str>, All
         .collect(alloc)
 }
 
-fn source_of(input: &impl IsTerminal) -> Source {
-    if input.is_terminal() {
-        Source::Terminal
-    } else {
-        Source::Elsewhere
-    }
-}
-
-fn destination_of(output: &impl IsTerminal) -> Destination {
-    if output.is_terminal() {
-        Destination::Terminal
-    } else {
-        Destination::Elsewhere
-    }
-}
-
 /// The exit status, unless the system doesn't give the words.
 #[inline(never)]
-fn status(rt: &HostRuntime) -> io::Result<u8> {
+fn status<E: Write>(rt: &HostRuntime, person: &mut Person<E>) -> io::Result<u8> {
     let alloc = rt.alloc();
     let arguments: Vec<String> = env::args(rt)?.collect(alloc)?;
     let words = texts(alloc, &arguments)?;
     let files = SystemFiles::new(rt);
     let (input, output) = (rt.stdin(), rt.stdout());
-    let terminals = Terminals {
-        source: source_of(&input),
-        destination: destination_of(&output),
-        errors: destination_of(&rt.stderr()),
-    };
-    let errors = &mut Messages::new(rt.stderr());
-    let watch = &mut DrillProgress::new(rt.stderr(), terminals);
-    if terminals.source == Source::Elsewhere {
-        let ended = program(
-            &files, alloc, &words, input, output, errors, watch, terminals,
-        );
-        return Ok(ended.status());
+    if !input.is_terminal() {
+        return Ok(program(&files, alloc, &words, input, output, person).status());
     }
     let input = Watched::new(input);
-    let ended = program(
-        &files, alloc, &words, input, output, errors, watch, terminals,
-    );
-    Ok(with_rest_dropped(ended, errors).status())
+    let ended = program(&files, alloc, &words, input, output, person);
+    Ok(with_rest_dropped(ended, person).status())
 }
 
 fn main(rt: HostRuntime) -> ExitCode {
     // The system gives the stack here, before a secret is read. So the clearing at the end can't fail for lack of it.
     let _ = clear_stack::<REACHED>();
-    let ended = status(&rt).unwrap_or_else(|error| no_words(
-        &error,
-        &mut Messages::new(rt.stderr()),
-    ));
+    let terminals = Terminals {
+        input: rt.stdin().is_terminal(),
+        output: rt.stdout().is_terminal(),
+        errors: rt.stderr().is_terminal(),
+    };
+    let person = &mut Person::new(rt.stderr(), terminals);
+    let ended = match status(&rt, person) {
+        Ok(ended) => ended,
+        Err(error) => no_words(&error, person),
+    };
     let _ = clear_stack::<REACHED>();
     ExitCode::from(ended)
 }

@@ -1,10 +1,8 @@
 use Rattle.std.proofs.Common.{[], subst, sym}
 use Rattle.s39_command.specs.declared.command.Job.{Job}
-use Rattle.s39_cli.specs.declared.work.NoWork.TheVariants.{Plan}
 use Rattle.s39_cli.specs.Outcome.{HasBadPlan}
 use Rattle.s39_cli.proofs.Ends.{bad_plan}
-use Rattle.s39_cli.proofs.Said.{said_of_plan}
-use Rattle.s39_cli.proofs.SeenOfWords.{unseen_unbegun}
+use Rattle.s39_cli.proofs.Said.{said_of_plan, said_undrawn}
 use Rattle.s39_cli.proofs.runner.by_job.Goals as goal
 
 pub returns-in-Err-clause-ends : goal.returns-in-Err-clause-ends
@@ -15,11 +13,12 @@ returns-in-Err-clause-ends g c =
 
 pub returns-in-Err-clause-said : goal.returns-in-Err-clause-said
 returns-in-Err-clause-said g c =
-    said_of_plan g.E.Write.contents g.R.Read.remaining c.args.job [] c.args.notes.is_attended c.args.notes.types_mnemonics
-    c.args.notes.tells_of_none c.in-Err.error c.args.input c.unbegun.result c.args.errors.now c.unbegun.new.errors
-    (subst (λ (j : Job). HasBadPlan j [] c.in-Err.error) (sym c.in-Some.ensures.some) c.in-Err.ensures.reading) c.unbegun.ensures.said
+    let person = c.args.person.now in
+    said_of_plan g.E.Write.contents g.R.Read.remaining person.terminals person.is_bare c.args.job c.args.input person c.unbegun.new.person [] c.in-Err.error
+    c.unbegun.result (subst (λ (j : Job). HasBadPlan j [] c.in-Err.error) (sym c.in-Some.ensures.some) c.in-Err.ensures.reading) c.unbegun.ensures.said
 
-pub returns-in-Err-clause-listed : goal.returns-in-Err-clause-listed
-returns-in-Err-clause-listed g c =
-    unseen_unbegun g.P.Watch.sees g.R.Read.remaining c.args.job c.args.input c.args.watch.now c.args.watch.now (Plan c.in-Err.error) c.args.input c.args.output
-    c.unbegun.result c.unbegun.ensures.ends
+pub returns-in-Err-Failed-clause-said : goal.returns-in-Err-Failed-clause-said
+returns-in-Err-Failed-clause-said g c =
+    let person = c.args.person.now in
+    said_undrawn g.E.Write.contents g.R.Read.remaining person.terminals person.is_bare c.args.job c.args.input person c.without_value.new.person
+    c.in-Some.name.now c.without_value.result (c.without_value.ensures.failed (λ same. cc)) c.without_value.ensures.said c.without_value.ensures.not_begun

@@ -1,10 +1,10 @@
-use Rattle.std.proofs.Common.{refl}
+use Rattle.std.proofs.Common.{◌∙◌, Bool, ap, subst}
+use Rattle.s39_cli.specs.declared.person.Terminals.{Terminals}
 use Rattle.s39_cli.specs.Outcome.{status_of}
+use Rattle.s39_cli.specs.Said.{SaysInRun, tells_last}
 use Rattle.s39_cli.proofs.Ends.{does_work}
 use Rattle.s39_cli.proofs.Untouched.{run_untouched, work_alike}
 use Rattle.s39_cli.proofs.Said.{said_by_work, said_unbegun}
-use Rattle.s39_cli.proofs.SeenByRuns.{seen_by_work, seen_some}
-use Rattle.s39_cli.proofs.SeenOfWords.{unseen_unbegun}
 use Rattle.s39_cli.proofs.runner.by_texts.Goals as goal
 
 pub returns-clause-ends : goal.returns-clause-ends
@@ -23,37 +23,22 @@ returns-clause-untouched g c =
 
 pub returns-in-Err-clause-said : goal.returns-in-Err-clause-said
 returns-in-Err-clause-said g c =
-    said_unbegun g.E.Write.contents g.R.Read.remaining c.args.job c.args.texts.secret.now c.args.notes.is_attended c.args.notes.types_mnemonics
-    c.args.notes.tells_of_none c.in-Err.no_work c.args.input c.unbegun.result c.args.errors.now c.unbegun.new.errors c.in-Err.ensures.refused
-    c.unbegun.ensures.said
+    let person = c.args.person.now in
+    said_unbegun g.E.Write.contents g.R.Read.remaining person.terminals person.is_bare c.args.job c.args.input person c.unbegun.new.person
+    c.args.texts.secret.now c.in-Err.no_work c.unbegun.result c.in-Err.ensures.refused c.unbegun.ensures.said
 
 pub returns-clause-said : goal.returns-clause-said
 returns-clause-said g c =
     let run = c.by_lines-finished.result in
-    said_by_work g.E.Write.contents g.R.Read.remaining g.W.Write.contents c.args.job c.args.texts.secret.now c.args.texts.passphrase.now
-    c.args.notes.is_attended c.args.notes.types_mnemonics c.args.notes.tells_of_none c.asks.result c.in-Ok.work run.answer c.args.input run.input
-    c.args.output run.output c.tell_answer.result c.args.errors.now c.say_if.new.self c.by_lines-finished.new.errors c.tell_answer.new.errors
-    c.in-Ok.ensures.work c.asks.ensures.asked c.by_lines-finished.ensures.delivers c.say_if.ensures.said c.by_lines-finished.ensures.said
+    let person = c.args.person.now in
+    let mid = c.say_if.new.self in
+    said_by_work g.E.Write.contents g.R.Read.remaining c.args.job c.args.texts.secret.now c.args.texts.passphrase.now person.terminals person.is_bare
+    c.types_mnemonics-types.result c.asks-is_asked.result c.tells_last-tells_of_none.result c.in-Ok.work c.args.input person mid c.by_lines-finished.new.person
+    c.tell_answer.new.person c.in-Ok.ensures.work c.types_mnemonics-types.ensures c.asks-is_asked.ensures.asked
+    (c.tells_last-tells_of_none.ensures ∙ ap (tells_last c.in-Ok.work) c.hears_of_none.ensures)
+    c.say_if.ensures.said g.W.Write.contents run.answer run.input c.args.output run.output c.tell_answer.result c.by_lines-finished.ensures.delivers
+    (subst (λ (t : Terminals). SaysInRun g.R.Read.remaining g.E.Write.contents t person.is_bare c.in-Ok.work c.args.input run.answer mid
+    c.by_lines-finished.new.person) c.say_if.ensures.said.same_terminals
+    (subst (λ (b : Bool). SaysInRun g.R.Read.remaining g.E.Write.contents mid.terminals b c.in-Ok.work c.args.input run.answer mid
+    c.by_lines-finished.new.person) c.say_if.ensures.bare c.by_lines-finished.ensures.said))
     c.tell_answer.ensures.said c.tell_answer.ensures.ends
-
--- ---- how many quorums are told of
-
-pub returns-in-Err-clause-seen : goal.returns-in-Err-clause-seen
-returns-in-Err-clause-seen g c = (0, refl)
-
-pub returns-clause-seen : goal.returns-clause-seen
-returns-clause-seen g c =
-    seen_some g.P.Watch.sees g.R.Read.remaining c.args.input c.in-Ok.work c.by_lines-finished.result.answer c.args.watch.now c.by_lines-finished.new.watch
-    c.by_lines-finished.ensures.seen
-
-pub returns-in-Err-clause-listed : goal.returns-in-Err-clause-listed
-returns-in-Err-clause-listed g c =
-    unseen_unbegun g.P.Watch.sees g.R.Read.remaining c.args.job c.args.input c.args.watch.now c.args.watch.now c.in-Err.no_work c.args.input c.args.output
-    c.unbegun.result c.unbegun.ensures.ends
-
-pub returns-clause-listed : goal.returns-clause-listed
-returns-clause-listed g c =
-    let run = c.by_lines-finished.result in
-    seen_by_work g.P.Watch.sees g.R.Read.remaining c.args.input c.args.job c.args.texts.secret.now c.args.texts.passphrase.now c.in-Ok.work run.answer
-    run.input run.output c.tell_answer.result c.args.watch.now c.by_lines-finished.new.watch c.in-Ok.ensures.work c.by_lines-finished.ensures.seen
-    c.tell_answer.ensures.ends

@@ -53,7 +53,7 @@ returns-in_default-clause-seen g c = λ after listed next is.
     let none = subst (IsNext c.args.set.now after) c.in_default.is next in
     let same = c.one_listing.ensures.once c.args.set.now after c.args.limit [] listed
     (c.listings_join.ensures.none c.args.set.now after c.args.limit none) is in
-    subst (λ (l : List Names). AreSeen g.P.Watch.sees (length l) c.args.watch.now c.args.watch.now) same refl
+    subst (λ (l : List Names). AreSeen g.P.Watch.counts (length l) c.args.watch.now c.args.watch.now) same refl
 
 pub returns-clause-seen : goal.returns-clause-seen
 returns-clause-seen g c = λ after listed next is. c.write_drill.ensures.seen after listed (subst (IsNext c.args.set.now after) c.in-Some.is next) is

@@ -29,7 +29,7 @@ loop-outcome-init g c = record {
   counting = counting_starts c.args.output.now c.args.set.now c.args.passphrase.now c.args.start c.args.limit;
   seen =
       let none : 0 ≡ c.args.limit - c.args.limit = omega arith in
-      subst (λ (n : ℕ). AreSeen g.P.Watch.sees n c.args.watch.now c.args.watch.now) none refl;
+      subst (λ (n : ℕ). AreSeen g.P.Watch.counts n c.args.watch.now c.args.watch.now) none refl;
 }
 
 -- what is known of a quorum whose line goes to the writer
@@ -82,10 +82,10 @@ module _ (g : Over) (c : After-write_text-then-left-eq0 g) where
       c.following-next.ensures.next done
 
   -- it is told of too
-  seen : AreSeen g.P.Watch.sees (c.args.limit - (c.loop-outcome.left - 1)) c.args.watch.now c.listed.new.self
+  seen : AreSeen g.P.Watch.counts (c.args.limit - (c.loop-outcome.left - 1)) c.args.watch.now c.listed.new.self
   seen =
       let inv = c.loop-outcome.invariant in
-      seen_more g.P.Watch.sees (c.args.limit - c.loop-outcome.left) (c.args.limit - (c.loop-outcome.left - 1)) c.args.watch.now c.loop-outcome.watch
+      seen_more g.P.Watch.counts (c.args.limit - c.loop-outcome.left) (c.args.limit - (c.loop-outcome.left - 1)) c.args.watch.now c.loop-outcome.watch
       c.listed.new.self (omega (arith, inv.some, inv.counting.few)) inv.seen c.listed.ensures
 
   last : c.as_slice-then-left-eq0.result.now ≡ last_line more
@@ -110,7 +110,7 @@ loop-outcome-preserved g c =
       params = rw c.outcome_of-outcome.ensures.params inv.params;
       counting = counting_goes_on c.drill_laws.ensures (counting g at) (outcome g at) (is_outcome g at) c.write_text.new.output
           (rw (line g at) at c.in_ok-write_text.ensures) c.unwrap-quorum.result first;
-      seen = seen_more g.P.Watch.sees (c.args.limit - c.loop-outcome.left) (c.args.limit - (c.loop-outcome.left - 1)) c.args.watch.now c.loop-outcome.watch
+      seen = seen_more g.P.Watch.counts (c.args.limit - c.loop-outcome.left) (c.args.limit - (c.loop-outcome.left - 1)) c.args.watch.now c.loop-outcome.watch
           c.listed.new.self (omega (arith, inv.some, inv.counting.few)) inv.seen c.listed.ensures;
     }
 
@@ -151,7 +151,7 @@ returns-in_err-write_text-clause-seen g c =
     (rw (line g at) at c.in_err-write_text.ensures) in (
       c.args.limit - suc (c.loop-outcome.left - 1),
       fails.0,
-      subst (λ n. AreSeen g.P.Watch.sees (c.args.limit - n) c.args.watch.now c.loop-outcome.watch) (sym same) inv.seen,
+      subst (λ n. AreSeen g.P.Watch.counts (c.args.limit - n) c.args.watch.now c.loop-outcome.watch) (sym same) inv.seen,
       fails.1,
     ))
 
@@ -174,6 +174,6 @@ pub returns-then-left-eq0-clause-seen : goal.returns-then-left-eq0-clause-seen
 returns-then-left-eq0-clause-seen g c = λ after listed first is.
     let at = (goal.at.returns-then-left-eq0-clause-seen g c).After-write_text in
     let end = (goal.at.returns-then-left-eq0-clause-seen g c).After-write_text-then-left-eq0 in
-    subst (λ (n : ℕ). AreSeen g.P.Watch.sees n c.args.watch.now c.listed.new.self)
+    subst (λ (n : ℕ). AreSeen g.P.Watch.counts n c.args.watch.now c.listed.new.self)
     (counting_ends c.drill_laws.ensures (counting g at) (outcome g at) (is_outcome g at) c.write_text.new.output
     (rw (line g at) at c.in_ok-write_text.ensures) after first listed is (none g end)) (seen g end)

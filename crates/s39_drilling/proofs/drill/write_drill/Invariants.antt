@@ -15,7 +15,7 @@ invariant-loop-outcome g l = record {
   passphrase : l.memo.passphrase ≡ l.passphrase;
   params : AreParams l.set l.memo.params;
   counting : IsCounting g.W.Write.contents l.fn.output l.output l.form l.set l.passphrase l.fn.start l.limit l.quorum l.left;
-  seen : AreSeen g.P.Watch.sees (l.limit - l.left) l.fn.watch l.watch;
+  seen : AreSeen g.P.Watch.counts (l.limit - l.left) l.fn.watch l.watch;
 }
 
 abbrev pub decreases-loop-outcome : goal.decreases-loop-outcome

@@ -1,5 +1,6 @@
-use Rattle.std.proofs.Common.{ℕ, List, refl, subst, sym}
-use Rattle.s39_input.specs.Accepted.{read_as}
+use Rattle.std.proofs.Common.{ℕ, List, Option, refl, subst, sym}
+use Rattle.std.specs.Option.{option_copied}
+use Rattle.s39_set.specs.Names.{Names}
 use Rattle.s39_input.specs.Create.{IsCreateOutput}
 use Rattle.s39_drilling.specs.Drill.{IsDrillOutput}
 use Rattle.s39_reading.specs.Recover.{IsRecoverOutput}
@@ -12,11 +13,9 @@ use Rattle.s39_creating.specs.Reissue.{IsReissueOutput}
 use Rattle.s39_creating.specs.Resplit.{IsResplitOutput}
 use Rattle.s39_reading.specs.Status.{IsStatusOutput}
 use Rattle.s39_cli.specs.Outcome.{where_done, without_mismatches}
-use Rattle.s39_cli.specs.Said.{SaysOnceRead, bare_line, early_lines, line_if, read_lines}
+use Rattle.s39_cli.specs.Said.{SaysInRun}
 use Rattle.s39_cli.specs.Work.{IsWorkOutput}
-use Rattle.s39_cli.proofs.SaidByRuns.{said_judged, unsaid_work}
-use Rattle.s39_cli.specs.Seen.{SeesDrill, SeesOnceRead, SeesWork}
-use Rattle.s39_cli.proofs.SeenByRuns.{seen_judged, unseen_work}
+use Rattle.s39_cli.proofs.SaidByRuns.{said_by_drill, said_by_recovery, said_judged, unmoved, unsaid_work}
 use Rattle.s39_cli.proofs.Works.{Runs-judged}
 use Rattle.s39_cli.proofs.work.Work.run.Goals as goal
 
@@ -53,23 +52,24 @@ returns-in-Recover-clause-runs g c =
     let passphrase = c.in-Recover.passphrase in
     let form = c.in-Recover.form in
     let expected = c.in-Recover.expected in
-    subst (λ (w : Work). Runs g.R.Read.remaining g.W.Write.contents (IsWorkOutput w) c.args.input.now c.recover_told.new.input c.args.output.now
-    c.recover_told.new.output c.where_done-in-Recover.result) (sym c.in-Recover.is)
+    subst (λ (w : Work). Runs g.R.Read.remaining g.W.Write.contents (IsWorkOutput w) c.args.input.now c.run_recover.new.input c.args.output.now
+    c.run_recover.new.output c.where_done-in-Recover.result) (sym c.in-Recover.is)
     (Runs-judged g.R.Read.remaining g.W.Write.contents where_done (IsRecoverOutput form expected passphrase.now)
     (IsWorkOutput (work.Recover passphrase form expected))
-    c.args.input.now c.recover_told.new.input c.args.output.now c.recover_told.new.output c.recover_told.result
-    c.where_done-in-Recover.result c.recover_told.ensures.runs c.where_done-in-Recover.ensures
+    c.args.input.now c.run_recover.new.input c.args.output.now c.run_recover.new.output c.run_recover.result
+    c.where_done-in-Recover.result c.run_recover.ensures.runs c.where_done-in-Recover.ensures
     (λ input text full output. (full, output, refl)))
 
 pub returns-in-Drill-clause-runs : goal.returns-in-Drill-clause-runs
 returns-in-Drill-clause-runs g c =
     let drill = c.in-Drill.drill in
-    subst (λ (w : Work). Runs g.R.Read.remaining g.W.Write.contents (IsWorkOutput w) c.args.input.now c.drill_told.new.input c.args.output.now
-    c.drill_told.new.output c.without_mismatches.result) (sym c.in-Drill.is)
+    subst (λ (w : Work). Runs g.R.Read.remaining g.W.Write.contents (IsWorkOutput w) c.args.input.now c.run_drill.new.input c.args.output.now
+    c.run_drill.new.output c.without_mismatches.result) (sym c.in-Drill.is)
     (Runs-judged g.R.Read.remaining g.W.Write.contents without_mismatches (IsDrillOutput drill.form drill.passphrase.now drill.after drill.limit)
-    (IsWorkOutput (work.Drill drill)) c.args.input.now c.drill_told.new.input c.args.output.now c.drill_told.new.output c.drill_told.result
+    (IsWorkOutput (work.Drill drill)) c.args.input.now c.run_drill.new.input c.args.output.now c.run_drill.new.output c.run_drill.result
     c.without_mismatches.result
-    c.drill_told.ensures.runs
+    (subst (λ (after : Option Names). Runs g.R.Read.remaining g.W.Write.contents (IsDrillOutput drill.form drill.passphrase.now after drill.limit)
+    c.args.input.now c.run_drill.new.input c.args.output.now c.run_drill.new.output c.run_drill.result) c.as_ref.ensures.value c.run_drill.ensures.runs)
     c.without_mismatches.ensures (λ input text full output. (full, output, refl)))
 
 pub returns-in-Status-clause-runs : goal.returns-in-Status-clause-runs
@@ -109,98 +109,61 @@ returns-in-Resplit-clause-runs g c =
 
 pub returns-in-Show-clause-said : goal.returns-in-Show-clause-said
 returns-in-Show-clause-said g c =
-    unsaid_work g.R.Read.remaining g.E.Write.contents c.args.input.now.device c.args.self.now work.Show
-    c.args.notes.is_attended c.args.notes.tells_of_none c.where_done.result c.args.errors.now
-    c.in-Show.is (λ _. refl)
+    let person = c.args.person.now in
+    unsaid_work g.R.Read.remaining g.E.Write.contents person.terminals person.is_bare c.args.input.now.device c.args.self.now work.Show c.where_done.result
+    person c.in-Show.is (λ _. refl) refl
 
 pub returns-in-Create-clause-said : goal.returns-in-Create-clause-said
 returns-in-Create-clause-said g c =
-    unsaid_work g.R.Read.remaining g.E.Write.contents c.args.input.now.device
-    c.args.self.now (work.Create c.in-Create.creation) c.args.notes.is_attended c.args.notes.tells_of_none c.where_done-in-Create.result c.args.errors.now
-    c.in-Create.is (λ _. refl)
-
-pub returns-in-Recover-clause-said : goal.returns-in-Recover-clause-said
-returns-in-Recover-clause-said g c =
-    subst (λ (w : Work). SaysOnceRead g.R.Read.remaining g.E.Write.contents (early_lines w c.args.notes.is_attended c.args.notes.tells_of_none)
-    c.args.input.now.device c.where_done-in-Recover.result c.args.errors.now c.recover_told.new.errors) (sym c.in-Recover.is)
-    (said_judged g.R.Read.remaining g.E.Write.contents c.args.input.now.device where_done
-    (λ input. line_if c.args.notes.tells_of_none bare_line) c.recover_told.result c.where_done-in-Recover.result c.args.errors.now
-    c.recover_told.new.errors c.where_done-in-Recover.ensures c.recover_told.ensures.said)
+    let person = c.args.person.now in
+    unsaid_work g.R.Read.remaining g.E.Write.contents person.terminals person.is_bare c.args.input.now.device c.args.self.now (work.Create c.in-Create.creation) c.where_done-in-Create.result
+    person c.in-Create.is (λ _. refl) refl
 
 pub returns-in-Status-clause-said : goal.returns-in-Status-clause-said
 returns-in-Status-clause-said g c =
-    unsaid_work g.R.Read.remaining g.E.Write.contents c.args.input.now.device
-    c.args.self.now work.Status c.args.notes.is_attended c.args.notes.tells_of_none c.with_enough.result c.args.errors.now
-    c.in-Status.is (λ _. refl)
+    let person = c.args.person.now in
+    unsaid_work g.R.Read.remaining g.E.Write.contents person.terminals person.is_bare c.args.input.now.device c.args.self.now work.Status c.with_enough.result
+    person c.in-Status.is (λ _. refl) refl
 
 pub returns-in-Reissue-clause-said : goal.returns-in-Reissue-clause-said
 returns-in-Reissue-clause-said g c =
-    unsaid_work g.R.Read.remaining g.E.Write.contents c.args.input.now.device
-    c.args.self.now (work.Reissue c.in-Reissue.reissue) c.args.notes.is_attended c.args.notes.tells_of_none c.where_done-in-Reissue.result c.args.errors.now
-    c.in-Reissue.is (λ _. refl)
+    let person = c.args.person.now in
+    unsaid_work g.R.Read.remaining g.E.Write.contents person.terminals person.is_bare c.args.input.now.device c.args.self.now (work.Reissue c.in-Reissue.reissue) c.where_done-in-Reissue.result
+    person c.in-Reissue.is (λ _. refl) refl
 
 pub returns-in-Repair-clause-said : goal.returns-in-Repair-clause-said
 returns-in-Repair-clause-said g c =
-    unsaid_work g.R.Read.remaining g.E.Write.contents c.args.input.now.device
-    c.args.self.now work.Repair c.args.notes.is_attended c.args.notes.tells_of_none c.run_repair.result c.args.errors.now
-    c.in-Repair.is (λ _. refl)
+    let person = c.args.person.now in
+    unsaid_work g.R.Read.remaining g.E.Write.contents person.terminals person.is_bare c.args.input.now.device c.args.self.now work.Repair c.run_repair.result
+    person c.in-Repair.is (λ _. refl) refl
 
 pub returns-in-Resplit-clause-said : goal.returns-in-Resplit-clause-said
 returns-in-Resplit-clause-said g c =
-    unsaid_work g.R.Read.remaining g.E.Write.contents c.args.input.now.device
-    c.args.self.now (work.Resplit c.in-Resplit.resplit) c.args.notes.is_attended c.args.notes.tells_of_none c.where_done-in-Resplit.result c.args.errors.now
-    c.in-Resplit.is (λ _. refl)
+    let person = c.args.person.now in
+    unsaid_work g.R.Read.remaining g.E.Write.contents person.terminals person.is_bare c.args.input.now.device c.args.self.now (work.Resplit c.in-Resplit.resplit) c.where_done-in-Resplit.result
+    person c.in-Resplit.is (λ _. refl) refl
+
+pub returns-in-Recover-clause-said : goal.returns-in-Recover-clause-said
+returns-in-Recover-clause-said g c =
+    let person = c.args.person.now in
+    let runs = c.run_recover.ensures in
+    subst (λ (w : Work). SaysInRun g.R.Read.remaining g.E.Write.contents person.terminals person.is_bare w c.args.input.now.device
+    c.where_done-in-Recover.result person c.run_recover.new.watch) (sym c.in-Recover.is)
+    (said_judged g.R.Read.remaining g.E.Write.contents person.terminals person.is_bare c.args.input.now.device where_done
+    (work.Recover c.in-Recover.passphrase c.in-Recover.form c.in-Recover.expected) c.run_recover.result c.where_done-in-Recover.result person
+    c.run_recover.new.watch c.where_done-in-Recover.ensures
+    (said_by_recovery g.R.Read.remaining g.E.Write.contents person.terminals person.is_bare c.args.input.now c.run_recover.new.input
+    c.in-Recover.passphrase c.in-Recover.form c.in-Recover.expected c.run_recover.result person c.run_recover.new.watch refl refl runs.told runs.cut
+    (unmoved c.run_recover.result _ _ runs.untouched)))
 
 pub returns-in-Drill-clause-said : goal.returns-in-Drill-clause-said
 returns-in-Drill-clause-said g c =
-    subst (λ (w : Work). SaysOnceRead g.R.Read.remaining g.E.Write.contents (early_lines w c.args.notes.is_attended c.args.notes.tells_of_none)
-    c.args.input.now.device c.without_mismatches.result c.args.errors.now c.drill_told.new.errors) (sym c.in-Drill.is)
-    (said_judged g.R.Read.remaining g.E.Write.contents c.args.input.now.device without_mismatches
-    (λ input. line_if c.args.notes.is_attended (read_lines (read_as input))) c.drill_told.result c.without_mismatches.result c.args.errors.now
-    c.drill_told.new.errors c.without_mismatches.ensures c.drill_told.ensures.said)
-
--- ---- how many quorums are told of
-
-pub returns-in-Show-clause-seen : goal.returns-in-Show-clause-seen
-returns-in-Show-clause-seen g c =
-    unseen_work g.P.Watch.sees g.R.Read.remaining c.args.input.now.device c.args.self.now work.Show
-    c.where_done.result c.args.watch.now c.in-Show.is (λ _. refl)
-
-pub returns-in-Create-clause-seen : goal.returns-in-Create-clause-seen
-returns-in-Create-clause-seen g c =
-    unseen_work g.P.Watch.sees g.R.Read.remaining c.args.input.now.device c.args.self.now (work.Create c.in-Create.creation)
-    c.where_done-in-Create.result c.args.watch.now c.in-Create.is (λ _. refl)
-
-pub returns-in-Recover-clause-seen : goal.returns-in-Recover-clause-seen
-returns-in-Recover-clause-seen g c =
-    unseen_work g.P.Watch.sees g.R.Read.remaining c.args.input.now.device c.args.self.now
-    (work.Recover c.in-Recover.passphrase c.in-Recover.form c.in-Recover.expected)
-    c.where_done-in-Recover.result c.args.watch.now c.in-Recover.is (λ _. refl)
-
-pub returns-in-Status-clause-seen : goal.returns-in-Status-clause-seen
-returns-in-Status-clause-seen g c =
-    unseen_work g.P.Watch.sees g.R.Read.remaining c.args.input.now.device c.args.self.now work.Status
-    c.with_enough.result c.args.watch.now c.in-Status.is (λ _. refl)
-
-pub returns-in-Reissue-clause-seen : goal.returns-in-Reissue-clause-seen
-returns-in-Reissue-clause-seen g c =
-    unseen_work g.P.Watch.sees g.R.Read.remaining c.args.input.now.device c.args.self.now (work.Reissue c.in-Reissue.reissue)
-    c.where_done-in-Reissue.result c.args.watch.now c.in-Reissue.is (λ _. refl)
-
-pub returns-in-Repair-clause-seen : goal.returns-in-Repair-clause-seen
-returns-in-Repair-clause-seen g c =
-    unseen_work g.P.Watch.sees g.R.Read.remaining c.args.input.now.device c.args.self.now work.Repair
-    c.run_repair.result c.args.watch.now c.in-Repair.is (λ _. refl)
-
-pub returns-in-Resplit-clause-seen : goal.returns-in-Resplit-clause-seen
-returns-in-Resplit-clause-seen g c =
-    unseen_work g.P.Watch.sees g.R.Read.remaining c.args.input.now.device c.args.self.now (work.Resplit c.in-Resplit.resplit)
-    c.where_done-in-Resplit.result c.args.watch.now c.in-Resplit.is (λ _. refl)
-
-pub returns-in-Drill-clause-seen : goal.returns-in-Drill-clause-seen
-returns-in-Drill-clause-seen g c =
-    let drill = c.in-Drill.drill in
-    subst (λ (w : Work). SeesOnceRead g.P.Watch.sees g.R.Read.remaining (SeesWork g.P.Watch.sees w) c.args.input.now.device
-    c.without_mismatches.result c.args.watch.now c.drill_told.new.watch) (sym c.in-Drill.is)
-    (seen_judged g.P.Watch.sees g.R.Read.remaining c.args.input.now.device without_mismatches (SeesDrill g.P.Watch.sees drill.after drill.limit)
-    c.drill_told.result c.without_mismatches.result c.args.watch.now c.drill_told.new.watch c.without_mismatches.ensures c.drill_told.ensures.seen)
+    let person = c.args.person.now in
+    let runs = c.run_drill.ensures in
+    subst (λ (w : Work). SaysInRun g.R.Read.remaining g.E.Write.contents person.terminals person.is_bare w c.args.input.now.device
+    c.without_mismatches.result person c.run_drill.new.watch) (sym c.in-Drill.is)
+    (said_judged g.R.Read.remaining g.E.Write.contents person.terminals person.is_bare c.args.input.now.device without_mismatches
+    (work.Drill c.in-Drill.drill) c.run_drill.result c.without_mismatches.result person c.run_drill.new.watch c.without_mismatches.ensures
+    (said_by_drill g.R.Read.remaining g.E.Write.contents person.terminals person.is_bare c.args.input.now c.run_drill.new.input c.in-Drill.drill
+    (option_copied c.as_ref.result) c.run_drill.result person c.run_drill.new.watch refl c.as_ref.ensures.value runs.runs.read_failures_are runs.seen
+    _ runs.cut (unmoved c.run_drill.result _ _ runs.untouched)))

@@ -2,7 +2,7 @@ use Rattle.std.proofs.Common.{◌≡◌, ◌∙◌, ◌≤◌, ◌+◌, ◌++◌
 use Rattle.std.specs.Fmt.{decimal}
 use Rattle.std.proofs.lemmas.Fmt.{length-decimal-le}
 use Rattle.std.proofs.lemmas.List.{length-append}
-use Rattle.s39_cli.proofs.drilling.say_number.Goals as goal
+use Rattle.s39_cli.proofs.person.Person.say_number.Goals as goal
 
 pub push_number-requires : goal.push_number-requires
 push_number-requires g c =
