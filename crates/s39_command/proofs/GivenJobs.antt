@@ -3,6 +3,7 @@ use Rattle.std.proofs.Common.{◌≡◌, ◌∙◌, List, codes, Option, Some, N
 use Rattle.std.specs.Prelude.{option_and_then, slice_get}
 use Rattle.std.specs.Option.{option_or}
 use Rattle.std.specs.Str.Parse.{digits_value, without_leading_plus}
+use Rattle.clap.specs.Lexer.{without_minus}
 use Rattle.clap.specs.Walk.{row_text}
 use Rattle.clap.specs.Words.{Row, Shape, Text, first_of, one_of}
 use Rattle.s39_clap.specs.Arguments.{Given, given_for}
@@ -30,41 +31,30 @@ module _ (name : Text) (given : List Given) (words : List Text) (are : AreWords 
   abbrev TextIs : Text → Type 0
   TextIs id = first_of id found ≡ given_for given id
 
-  secret : TextIs (codes "master-secret")
-  unfolding shamir_app
-  secret = text_is name given words are (codes "master-secret") refl
+  record Texts : Type 0 where
+    pub secret : TextIs (codes "master-secret")
+    pub secret_file : TextIs (codes "master-secret-file")
+    pub passphrase : TextIs (codes "passphrase")
+    pub passphrase_file : TextIs (codes "passphrase-file")
+    pub expect : TextIs (codes "expect")
+    pub after : TextIs (codes "after")
+    pub plan : TextIs (codes "plan")
+    pub names : TextIs (codes "names")
+    pub random_file : TextIs (codes "random-file")
 
-  secret_file : TextIs (codes "master-secret-file")
+  texts : Texts
   unfolding shamir_app
-  secret_file = text_is name given words are (codes "master-secret-file") refl
-
-  passphrase : TextIs (codes "passphrase")
-  unfolding shamir_app
-  passphrase = text_is name given words are (codes "passphrase") refl
-
-  passphrase_file : TextIs (codes "passphrase-file")
-  unfolding shamir_app
-  passphrase_file = text_is name given words are (codes "passphrase-file") refl
-
-  expect : TextIs (codes "expect")
-  unfolding shamir_app
-  expect = text_is name given words are (codes "expect") refl
-
-  after : TextIs (codes "after")
-  unfolding shamir_app
-  after = text_is name given words are (codes "after") refl
-
-  plan : TextIs (codes "plan")
-  unfolding shamir_app
-  plan = text_is name given words are (codes "plan") refl
-
-  names : TextIs (codes "names")
-  unfolding shamir_app
-  names = text_is name given words are (codes "names") refl
-
-  random_file : TextIs (codes "random-file")
-  unfolding shamir_app
-  random_file = text_is name given words are (codes "random-file") refl
+  texts = record {
+    secret = text_is name given words are (codes "master-secret") refl;
+    secret_file = text_is name given words are (codes "master-secret-file") refl;
+    passphrase = text_is name given words are (codes "passphrase") refl;
+    passphrase_file = text_is name given words are (codes "passphrase-file") refl;
+    expect = text_is name given words are (codes "expect") refl;
+    after = text_is name given words are (codes "after") refl;
+    plan = text_is name given words are (codes "plan") refl;
+    names = text_is name given words are (codes "names") refl;
+    random_file = text_is name given words are (codes "random-file") refl;
+  }
 
   -- what is found for an argument of the command at a place
   abbrev Got : Shape → Text → Option Text → Option Row
@@ -77,65 +67,51 @@ module _ (name : Text) (given : List Given) (words : List Text) (are : AreWords 
     first_is : first_of id found ≡ option_and_then (λ r. slice_get r.values 0) (Got s id (given_for given id))
     first_is = ap (option_and_then (λ (r : Row). slice_get r.values 0)) (read_is name given words are s (ap command_of is ∙ named) id)
 
+  -- what is read of an argument with a default
+  got : (s : Shape) (id default : Text) (reads : Row → Option Text) (as_read : Text → Text) → ((text : Text) → reads (row_at s id text) ≡ Some (as_read text))
+      → option_and_then reads (default_row id s.rules) ≡ Some (as_read default) → (o : Option Text)
+      → option_and_then reads (Got s id o) ≡ Some (as_read (unwrap_or o default))
+  got s id default reads as_read there missing None = missing
+  got s id default reads as_read there missing (Some text) = there text
+
   -- the number that is found is the one that is given, or else the default
-  abbrev NumberIs : Shape → Text → Text → Option Text → Type 0
-  NumberIs s id default o = option_map (λ t. digits_value 10 (without_leading_plus t)) (option_and_then row_text (Got s id o))
-      ≡ Some (number_in (unwrap_or o default))
+  abbrev NumberIs : Text → Text → Type 0
+  NumberIs id default = HasNumber id found (number_in (text_or given id default))
+
+  exponent : name ≡ codes "create" → NumberIs (codes "exponent") (codes "0")
+  unfolding shamir_app
+  exponent is = ap (option_map (λ t. digits_value 10 (without_leading_plus t))) (one_is (shape_at 1) (codes "create") is refl (codes "exponent")
+      ∙ got (shape_at 1) (codes "exponent") (codes "0") row_text without_minus (λ text. refl) refl (given_for given (codes "exponent")))
+
+  limit : name ≡ codes "drill" → NumberIs (codes "limit") (codes "1000")
+  unfolding shamir_app
+  limit is = ap (option_map (λ t. digits_value 10 (without_leading_plus t))) (one_is (shape_at 3) (codes "drill") is refl (codes "limit")
+      ∙ got (shape_at 3) (codes "limit") (codes "1000") row_text without_minus (λ text. refl) refl (given_for given (codes "limit")))
 
   -- and so the text of a flag
-  abbrev FlagIs : Shape → Text → Option Text → Type 0
-  FlagIs s id o = option_and_then row_text (Got s id o) ≡ Some (unwrap_or o (codes "false"))
+  abbrev FlagIs : Text → Type 0
+  FlagIs id = one_of id found ≡ Some (text_or given id (codes "false"))
 
-  exponent : name ≡ codes "create" → HasNumber (codes "exponent") found (number_in (text_or given (codes "exponent") (codes "0")))
+  extendable : name ≡ codes "create" → FlagIs (codes "extendable")
   unfolding shamir_app
-  exponent is = ap (option_map (λ t. digits_value 10 (without_leading_plus t))) (one_is (shape_at 1) (codes "create") is refl (codes "exponent"))
-      ∙ go (given_for given (codes "exponent"))
-    where
-      go : (o : Option Text) → NumberIs (shape_at 1) (codes "exponent") (codes "0") o
-      go None = refl
-      go (Some text) = refl
+  extendable is = one_is (shape_at 1) (codes "create") is refl (codes "extendable")
+      ∙ got (shape_at 1) (codes "extendable") (codes "false") row_text (λ text. text) (λ text. refl) refl (given_for given (codes "extendable"))
 
-  limit : name ≡ codes "drill" → HasNumber (codes "limit") found (number_in (text_or given (codes "limit") (codes "1000")))
+  form_of_recovery : name ≡ codes "recover" → FlagIs (codes "fingerprint")
   unfolding shamir_app
-  limit is = ap (option_map (λ t. digits_value 10 (without_leading_plus t))) (one_is (shape_at 3) (codes "drill") is refl (codes "limit"))
-      ∙ go (given_for given (codes "limit"))
-    where
-      go : (o : Option Text) → NumberIs (shape_at 3) (codes "limit") (codes "1000") o
-      go None = refl
-      go (Some text) = refl
+  form_of_recovery is = one_is (shape_at 2) (codes "recover") is refl (codes "fingerprint")
+      ∙ got (shape_at 2) (codes "fingerprint") (codes "false") row_text (λ text. text) (λ text. refl) refl (given_for given (codes "fingerprint"))
 
-  extendable : name ≡ codes "create" → one_of (codes "extendable") found ≡ Some (text_or given (codes "extendable") (codes "false"))
+  form_of_drill : name ≡ codes "drill" → FlagIs (codes "fingerprint")
   unfolding shamir_app
-  extendable is = one_is (shape_at 1) (codes "create") is refl (codes "extendable") ∙ go (given_for given (codes "extendable"))
-    where
-      go : (o : Option Text) → FlagIs (shape_at 1) (codes "extendable") o
-      go None = refl
-      go (Some text) = refl
-
-  form_of_recovery : name ≡ codes "recover" → one_of (codes "fingerprint") found ≡ Some (text_or given (codes "fingerprint") (codes "false"))
-  unfolding shamir_app
-  form_of_recovery is = one_is (shape_at 2) (codes "recover") is refl (codes "fingerprint") ∙ go (given_for given (codes "fingerprint"))
-    where
-      go : (o : Option Text) → FlagIs (shape_at 2) (codes "fingerprint") o
-      go None = refl
-      go (Some text) = refl
-
-  form_of_drill : name ≡ codes "drill" → one_of (codes "fingerprint") found ≡ Some (text_or given (codes "fingerprint") (codes "false"))
-  unfolding shamir_app
-  form_of_drill is = one_is (shape_at 3) (codes "drill") is refl (codes "fingerprint") ∙ go (given_for given (codes "fingerprint"))
-    where
-      go : (o : Option Text) → FlagIs (shape_at 3) (codes "fingerprint") o
-      go None = refl
-      go (Some text) = refl
+  form_of_drill is = one_is (shape_at 3) (codes "drill") is refl (codes "fingerprint")
+      ∙ got (shape_at 3) (codes "fingerprint") (codes "false") row_text (λ text. text) (λ text. refl) refl (given_for given (codes "fingerprint"))
 
   fingerprint : name ≡ codes "drill" → first_of (codes "fingerprint") found ≡ Some (text_or given (codes "fingerprint") (codes "false"))
   unfolding shamir_app
-  fingerprint is = first_is (shape_at 3) (codes "drill") is refl (codes "fingerprint") ∙ go (given_for given (codes "fingerprint"))
-    where
-      go : (o : Option Text)
-          → option_and_then (λ r. slice_get r.values 0) (Got (shape_at 3) (codes "fingerprint") o) ≡ Some (unwrap_or o (codes "false"))
-      go None = refl
-      go (Some text) = refl
+  fingerprint is = first_is (shape_at 3) (codes "drill") is refl (codes "fingerprint")
+      ∙ got (shape_at 3) (codes "fingerprint") (codes "false") (λ r. slice_get r.values 0) (λ text. text) (λ text. refl) refl
+      (given_for given (codes "fingerprint"))
 
   form_said : (form : SecretForm) → one_of (codes "fingerprint") found ≡ Some (text_or given (codes "fingerprint") (codes "false")) → IsAskedIn given form
       → IsFormSaid found form
@@ -147,22 +123,22 @@ module _ (name : Text) (given : List Given) (words : List Text) (are : AreWords 
   gives job.Show asks = asks
   gives (job.Create text e x) (is, text_given, number, said) = (
     is,
-    plan ∙ text_given,
+    texts.plan ∙ text_given,
     subst (HasNumber (codes "exponent") found) (sym number) (exponent is),
     extendable is ∙ ap (λ (t : Text). Some t) said,
   )
-  gives (job.Recover form e) (is, asked, expected) = (is, form_said form (form_of_recovery is) asked, expected ∙ sym expect)
+  gives (job.Recover form e) (is, asked, expected) = (is, form_said form (form_of_recovery is) asked, expected ∙ sym texts.expect)
   gives (job.Drill a n form e) (is, start, number, asked, expected) = (
     is,
-    start ∙ sym after,
+    start ∙ sym texts.after,
     subst (HasNumber (codes "limit") found) (sym number) (limit is),
     form_said form (form_of_drill is) asked,
-    expected ∙ sym expect,
+    expected ∙ sym texts.expect,
   )
   gives job.Status asks = asks
-  gives (job.Reissue text listed) (is, text_given, listed_given) = (is, plan ∙ text_given, names ∙ listed_given)
+  gives (job.Reissue text listed) (is, text_given, listed_given) = (is, texts.plan ∙ text_given, texts.names ∙ listed_given)
   gives job.Repair asks = asks
-  gives (job.Resplit text file) (is, text_given, file_given) = (is, plan ∙ text_given, random_file ∙ file_given)
+  gives (job.Resplit text file) (is, text_given, file_given) = (is, texts.plan ∙ text_given, texts.random_file ∙ file_given)
 
   -- ---- the faults of values
 
@@ -173,29 +149,29 @@ module _ (name : Text) (given : List Given) (words : List Text) (are : AreWords 
   to_given id same (text, is) = (text, sym same ∙ is)
 
   lacks_found : LacksSecret name (given_for given) → LacksSecret name (text_at found)
-  lacks_found (is, none, no_file) = (is, secret ∙ none, secret_file ∙ no_file)
+  lacks_found (is, none, no_file) = (is, texts.secret ∙ none, texts.secret_file ∙ no_file)
 
   lacks_given : LacksSecret name (text_at found) → LacksSecret name (given_for given)
-  lacks_given (is, none, no_file) = (is, sym secret ∙ none, sym secret_file ∙ no_file)
+  lacks_given (is, none, no_file) = (is, sym texts.secret ∙ none, sym texts.secret_file ∙ no_file)
 
   secrets_found : HasTwoSecrets (given_for given) → HasTwoSecrets (text_at found)
-  secrets_found (one, file) = (to_found (codes "master-secret") secret one, to_found (codes "master-secret-file") secret_file file)
+  secrets_found (one, file) = (to_found (codes "master-secret") texts.secret one, to_found (codes "master-secret-file") texts.secret_file file)
 
   secrets_given : HasTwoSecrets (text_at found) → HasTwoSecrets (given_for given)
-  secrets_given (one, file) = (to_given (codes "master-secret") secret one, to_given (codes "master-secret-file") secret_file file)
+  secrets_given (one, file) = (to_given (codes "master-secret") texts.secret one, to_given (codes "master-secret-file") texts.secret_file file)
 
   passphrases_found : HasTwoPassphrases (given_for given) → HasTwoPassphrases (text_at found)
-  passphrases_found (one, file) = (to_found (codes "passphrase") passphrase one, to_found (codes "passphrase-file") passphrase_file file)
+  passphrases_found (one, file) = (to_found (codes "passphrase") texts.passphrase one, to_found (codes "passphrase-file") texts.passphrase_file file)
 
   passphrases_given : HasTwoPassphrases (text_at found) → HasTwoPassphrases (given_for given)
-  passphrases_given (one, file) = (to_given (codes "passphrase") passphrase one, to_given (codes "passphrase-file") passphrase_file file)
+  passphrases_given (one, file) = (to_given (codes "passphrase") texts.passphrase one, to_given (codes "passphrase-file") texts.passphrase_file file)
 
   forms_found : HasTwoForms name (given_for given) → HasTwoForms name (text_at found)
   forms_found (is, one, said) =
-      (is, to_found (codes "expect") expect one, fingerprint is ∙ ap (λ (o : Option Text). Some (unwrap_or o (codes "false"))) said)
+      (is, to_found (codes "expect") texts.expect one, fingerprint is ∙ ap (λ (o : Option Text). Some (unwrap_or o (codes "false"))) said)
 
   forms_given : HasTwoForms name (text_at found) → HasTwoForms name (given_for given)
-  forms_given (is, one, said) = (is, to_given (codes "expect") expect one, go (given_for given (codes "fingerprint")) (sym (fingerprint is) ∙ said))
+  forms_given (is, one, said) = (is, to_given (codes "expect") texts.expect one, go (given_for given (codes "fingerprint")) (sym (fingerprint is) ∙ said))
     where
       go : (o : Option Text) → Some (unwrap_or o (codes "false")) ≡ Some (codes "true") → o ≡ Some (codes "true")
       go None same = absurd (other_text (codes "false") (codes "true") refl (said_same same))
@@ -212,7 +188,7 @@ module _ (name : Text) (given : List Given) (words : List Text) (are : AreWords 
     (λ s. single (secrets_given s)),
     (λ p. one (passphrases_given p)),
     (λ f. same (forms_given f)),
-    (is, random_file ∙ input),
+    (is, texts.random_file ∙ input),
   )
 
   bad_given : (bad : BadValues) → HasBadValues name (text_at found) bad → HasBadValues name (given_for given) bad
@@ -226,7 +202,7 @@ module _ (name : Text) (given : List Given) (words : List Text) (are : AreWords 
     (λ s. single (secrets_found s)),
     (λ p. one (passphrases_found p)),
     (λ f. same (forms_found f)),
-    (is, sym random_file ∙ input),
+    (is, sym texts.random_file ∙ input),
   )
 
 pub words_give : WordsGive
@@ -236,12 +212,12 @@ words_give name given words call are asks = (
   (read name given words are).met,
   gives name given words are call.job asks.job,
   record {
-    secret_is = asks.values.secret_is ∙ sym (secret name given words are);
-    passphrase_is = asks.values.passphrase_is ∙ sym (passphrase name given words are);
+    secret_is = asks.values.secret_is ∙ sym (texts name given words are).secret;
+    passphrase_is = asks.values.passphrase_is ∙ sym (texts name given words are).passphrase;
   },
   record {
-    secret_is = asks.files.secret_is ∙ sym (secret_file name given words are);
-    passphrase_is = asks.files.passphrase_is ∙ sym (passphrase_file name given words are);
+    secret_is = asks.files.secret_is ∙ sym (texts name given words are).secret_file;
+    passphrase_is = asks.files.passphrase_is ∙ sym (texts name given words are).passphrase_file;
   },
   λ bad. asks.sound (bad.0, bad_given name given words are bad.0 bad.1),
 )
