@@ -13,3 +13,5 @@ mod expect;
 mod extended_keys;
 #[cfg(test)]
 mod segwit;
+#[cfg(test)]
+mod shown;

@@ -1,0 +1,2 @@
+pub mod Bitcoin
+pub mod Ethereum
