@@ -2,7 +2,8 @@
 # ./shamir-papers too, which needs the library of `make lib` or of `make try`.
 # `make test` runs all checks, and `make quick` those that a change concerns. The other targets are:
 #
-#   make try         needs no kit: it compiles dist/c, and drills a backup with it. It leaves ./shamir-papers, which runs over it
+#   make try         needs no kit: it compiles dist/c, and drills a backup with it. It leaves ./shamir, and ./shamir-papers, which runs
+#                    over the library
 #   make lib         proves and builds the library: libshamir.a and libshamir.so. It leaves ./shamir-papers, which runs over it
 #   make TARGET=aarch64-linux-gnu, make lib TARGET=aarch64-linux-gnu   build the program and the library for arm64, with the same
 #                    proofs, into out/aarch64-linux-gnu. They need the cross compiler aarch64-linux-gnu-gcc. `make wheel` and
@@ -13,7 +14,7 @@
 #   make twins       tries the twins of all wrong bodies
 #   make wasm        proves and builds the library for WebAssembly: shamir.wasm, with 64-bit memory, and shamir32.wasm, with
 #                    32-bit memory
-#   make portable    makes dist/c, the library as one file of C, from shamir32.wasm
+#   make portable    makes dist/c, the library and the program each as one file of C, from shamir32.wasm and program.wasm
 #   make page        builds shamir.html, the page with the library in it
 #   make checks      runs each check-NAME below except check-portable, check-arm64 and check-alone, side by side: as many as there are
 #                    processors, and as many as get 3 GB of memory each, or as -j says. Each tool runs in a target of its own, such as
@@ -25,8 +26,8 @@
 #   make check-page  checks shamir.html in Chromium and in Firefox: each task by keyboard, each refusal, what the browser keeps; and
 #                    its tasks in WebKit
 #   make check-papers  checks shamir-papers in terminals: each task, each wrong answer, what the terminal and the memory keep
-#   make check-portable  checks dist/c, the library as one file of C: on x86-64 with each compiler, for other processors with
-#                    emulators, and for Windows with wine
+#   make check-portable  checks dist/c, the library and the program each as one file of C: on x86-64 with each compiler, for other
+#                    processors with emulators, and for Windows with wine
 #   make check-arm64  checks with an emulator what is built for arm64: it compares the library with libshamir.so, the program with
 #                    a plain reading of the standard in Python, and the packages with those for x86-64
 #   make check-js    checks the JavaScript package alone: its types, and its tests with both forms of the library
@@ -212,20 +213,21 @@ PACKAGES_CHECKS = check-debs check-installed
 SECRETS_CHECKS = check-leftovers check-timing
 PAGE_PARTS = privacy change refusals tasks journey entry looks astray hasty long agreement ways
 PAGE_CHECKS = $(foreach part,$(PAGE_PARTS),check-page-firefox-$(part) check-page-chromium-$(part)) check-page-sources check-page-webkit
-CHECKS = $(LIBRARY_CHECKS) $(PACKAGES_CHECKS) check-allocations check-terminal check-recipes check-completions check-values check-command check-dist \
+CHECKS = $(LIBRARY_CHECKS) $(PACKAGES_CHECKS) check-allocations check-terminal check-recipes check-completions check-values check-command check-dist check-program \
 	check-examples check-texts check-figures check-manual check-version
 LONGEST = check-page-firefox-privacy check-page-chromium-privacy check-header check-rust check-leftovers check-papers check-vectors $(PACKAGES_CHECKS)
 PART = @$(PYTHON) tools/part $@
 # Without wasm-opt there is no page, and the checks say what they leave out.
 WASM_OPT := $(shell command -v wasm-opt 2> /dev/null)
 PAGE = $(if $(WASM_OPT),shamir.html)
+MODULES = $(if $(WASM_OPT),shamir32.wasm program.wasm)
 
 .PHONY: checks check-secrets check-portable check-arm64 check-alone $(CHECKS) $(SECRETS_CHECKS) $(PAGE_CHECKS)
 
-checks: shamir libshamir.so $(SONAME) $(TIMING) shamir.wasm $(PAGE)
+checks: shamir libshamir.so $(SONAME) $(TIMING) shamir.wasm $(PAGE) $(MODULES)
 	@$(MAKE) $(SIDE_BY_SIDE) $(LONGEST) $(PAGE_CHECKS) $(SECRETS_CHECKS) check-papers $(CHECKS)
 
-check: shamir libshamir.so $(SONAME) shamir.wasm $(PAGE)
+check: shamir libshamir.so $(SONAME) shamir.wasm $(PAGE) $(MODULES)
 	@$(MAKE) $(SIDE_BY_SIDE) $(CHECKS)
 
 check-library: shamir libshamir.so $(SONAME) shamir.wasm $(PAGE)
@@ -240,9 +242,8 @@ check-secrets: shamir libshamir.a $(TIMING)
 check-page: shamir $(PAGE)
 	@$(MAKE) $(SIDE_BY_SIDE) $(PAGE_CHECKS)
 
-# If checks need several of these, one is built after the other: two provers at a time would prove the same crates. check-portable
-# needs no program.
-ifneq ($(filter-out check-portable,$(filter check%,$(MAKECMDGOALS))),)
+# If checks need several of these, one is built after the other: two provers at a time would prove the same crates.
+ifneq ($(filter check%,$(MAKECMDGOALS)),)
 libshamir.a: | shamir
 $(TIMING): | libshamir.so $(if $(filter checks,$(MAKECMDGOALS)),shamir.wasm)
 $(CROSS)/shamir: | libshamir.a $(if $(WASM_OPT),shamir.wasm)
@@ -281,8 +282,12 @@ check-command: shamir libshamir.so
 	$(PART) $(PYTHON) tools/command
 
 # Without wasm-opt there is no page, and the check says so.
-check-dist: $(PAGE)
+check-dist: $(PAGE) $(MODULES)
 	$(PART) $(PYTHON) tools/release --check
+
+# The program as plain C beside ./shamir, on this machine alone.
+check-program: shamir libshamir.so $(MODULES)
+	$(PART) $(PYTHON) tools/check_portable --program
 
 check-values: shamir
 	$(PART) tools/values
@@ -306,7 +311,7 @@ check-rust: libshamir.so
 	$(PART) tools/rust
 
 # Without wasm-opt there is no shamir32.wasm, and the check says so.
-check-portable: libshamir.so $(SONAME) $(if $(WASM_OPT),shamir32.wasm)
+check-portable: shamir libshamir.so $(SONAME) $(MODULES)
 	$(PART) $(PYTHON) tools/check_portable
 
 # Without a cross compiler nothing is built for arm64, and the check says so.
@@ -443,7 +448,7 @@ wheel:
 deb:
 	tools/deb $(FOR_TARGET)
 
-release: shamir.html
+release: shamir.html program.wasm
 	@$(PYTHON) tools/release
 
 dist:
@@ -461,7 +466,11 @@ shamir.wasm: libshamir.a tools/wasm
 shamir32.wasm: shamir.wasm
 	@tools/wasm --lower
 
-portable: shamir32.wasm
+# Proves the program once more, for WebAssembly. `make test` makes it beside ./shamir.
+program.wasm: $(SOURCES) tools/wasm | shamir
+	@RT=$(RT) tools/wasm --program
+
+portable: shamir32.wasm program.wasm
 	@$(PYTHON) tools/portable
 
 page: shamir.html
@@ -470,7 +479,7 @@ shamir.html: shamir32.wasm tools/page $(wildcard page/*.js page/*.html page/*.cs
 	@tools/page
 
 clean:
-	rm -rf shamir shamir-papers libshamir.a libshamir.so $(SONAME) shamir.wasm shamir32.wasm shamir.html page/out bindings/python/shamir/libshamir.so bindings/python/shamir/portable.so bindings/python/LICENSE bindings/python/NOTICE bindings/python/build bindings/python/shamir.egg-info bindings/js/shamir32.wasm bindings/js/LICENSE bindings/js/NOTICE shamir-$(VERSION) shamir-*.tar.gz shamir-*.whl *.deb out crates/*/out
+	rm -rf shamir shamir-papers libshamir.a libshamir.so $(SONAME) shamir.wasm shamir32.wasm program.wasm shamir.html page/out bindings/python/shamir/libshamir.so bindings/python/shamir/portable.so bindings/python/LICENSE bindings/python/NOTICE bindings/python/build bindings/python/shamir.egg-info bindings/js/shamir32.wasm bindings/js/LICENSE bindings/js/NOTICE shamir-$(VERSION) shamir-*.tar.gz shamir-*.whl *.deb out crates/*/out
 
 # prove-NAME proves the library NAME once those are proved that it uses. `rt` looks at the contents of all files, and proves only
 # what changed.

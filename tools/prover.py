@@ -114,10 +114,10 @@ def ran(name: str, command: list[str]) -> str:
     return done.stdout
 
 
-def compiled(name: str, to: str, *options: str) -> None:
-    """Proves a crate and compiles it into a file."""
-    toolchain = ["--toolchain", f"{kit()}/toolchain", "--backend", "llvm"]
-    said = ran(name, words("build", name, *kind(name), *options, *toolchain, "-o", to))
+def compiled(name: str, to: str, *options: str, toolchain: pathlib.Path | None = None) -> None:
+    """Proves a crate and compiles it into a file, with the kit's toolchain or with one of its form in another folder."""
+    by = ["--toolchain", str(toolchain or kit() / "toolchain"), "--backend", "llvm"]
+    said = ran(name, words("build", name, *kind(name), *options, *by, "-o", to))
     if not any(line.startswith("logic=proved ") for line in said.splitlines()):
         print(said, f"{name} isn't proved", sep="\n", flush=True)
         raise SystemExit(2)

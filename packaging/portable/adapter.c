@@ -37,15 +37,6 @@ typedef struct {
     part parts[PARTS_MAX];
 } call;
 
-/* memset, in a form that a compiler can't leave out. */
-static void *(*const volatile set_bytes)(void *, int, size_t) = memset;
-
-static void clear(void *memory, size_t bytes)
-{
-    if (bytes)
-        set_bytes(memory, 0, bytes);
-}
-
 static call new_call(void)
 {
     call c;

@@ -24,3 +24,12 @@
  *
  * LICENSE and NOTICE of shamir have the terms. The generated part has the form that wasm2c gives it, and wabt has the Apache License 2.0.
  */
+
+#include "shamir.h"
+
+#include <string.h>
+#ifndef SHAMIR_ALLOCATE
+#include <stdlib.h>
+#define SHAMIR_ALLOCATE(bytes) malloc(bytes)
+#define SHAMIR_RELEASE(memory) free(memory)
+#endif

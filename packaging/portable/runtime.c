@@ -1,14 +1,5 @@
 /* ---------- The runtime, written by hand ---------- */
 
-#include "shamir.h"
-
-#include <string.h>
-#ifndef SHAMIR_ALLOCATE
-#include <stdlib.h>
-#define SHAMIR_ALLOCATE(bytes) malloc(bytes)
-#define SHAMIR_RELEASE(memory) free(memory)
-#endif
-
 #if defined(__GNUC__)
 #define NOINLINE __attribute__((noinline))
 #define FRAME() ((uintptr_t)__builtin_frame_address(0))
@@ -24,7 +15,7 @@
 #define IS_RARE(condition) (condition)
 #define STOP() __fastfail(5)
 #else
-#error "shamir.c needs a compiler that knows __builtin_frame_address and __builtin_alloca, or MSVC"
+#error "this file needs a compiler that knows __builtin_frame_address and __builtin_alloca, or MSVC"
 #endif
 
 /* The generated part uses these names. */
@@ -54,6 +45,15 @@ typedef struct {
 
 /* Where an address of the module is. The sum is one of whole numbers, as no pointer may leave its block. */
 #define PLACE(m, at) ((u8 *)((m)->origin + (uintptr_t)(at)))
+
+/* memset, in a form that a compiler can't leave out. */
+static void *(*const volatile set_bytes)(void *, int, size_t) = memset;
+
+static void clear(void *memory, size_t bytes)
+{
+    if (bytes)
+        set_bytes(memory, 0, bytes);
+}
 
 /* A function of the module that calls no other may use this many bytes below the stack pointer. */
 #define RED_ZONE_BYTES 128u

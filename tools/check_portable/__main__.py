@@ -1,6 +1,7 @@
 """Makes the library as plain C from shamir32.wasm, as `make portable` does, checks it, and compares it with libshamir.so.
 
     python3 tools/check_portable [--cases N] [--seed S] [--only WORD..]
+    python3 tools/check_portable --program
     python3 tools/check_portable --speed
 
 In an empty folder, `cc` builds the library and runs the vectors in test.c, and CMake installs it. Compilers of C and C++ take it without
@@ -10,6 +11,9 @@ under qemu, and for Windows under wine, where these vectors run too. Without mem
 docs/LIBRARY.md says, and the memory of a call is clear when it is freed. If the stack of the module overflows, the program stops. On x86-64, no call leaves anything secret on the C stack, or
 needs more of it than the header says, and no branch and no address depends on secret bytes but as timing.py says. For no processor, a frame
 is so large that a call could clear too little. --only names words: the parts run whose names have one of them.
+
+Of the program as plain C, its output, messages and status are those of ./shamir on generated command lines, in the same builds. Tools that
+check ./shamir check it too, and its heap is tried beside a plain one. With --program, only this is checked, and only on x86-64.
 
 With --speed, it measures calls beside those of libshamir.a, and checks nothing.
 
@@ -31,6 +35,7 @@ import agreement  # noqa: E402
 import builds  # noqa: E402
 import driver  # noqa: E402
 import install  # noqa: E402
+import programs  # noqa: E402
 import sources  # noqa: E402
 import speed  # noqa: E402
 import stack  # noqa: E402
@@ -97,11 +102,23 @@ def other_parts() -> List[Part]:
     ]
 
 
+def of_program(is_whole: bool) -> List[Part]:
+    """Returns the parts that check the program."""
+    return [part for it, check in programs.checks(is_whole) if not said_missing(it) for part in [Part(it.name, in_folder(check))]]
+
+
+def said_missing(target: builds.Target) -> bool:
+    if target.missing():
+        left_out(f"{target.missing()} isn't here, so this isn't checked: {target.name}")
+    return bool(target.missing())
+
+
 def main() -> None:
     words = argparse.ArgumentParser()
     words.add_argument("--cases", type=int, default=2000)
     words.add_argument("--seed", type=int, default=39)
     words.add_argument("--only", nargs="*", default=[""])
+    words.add_argument("--program", action="store_true")
     words.add_argument("--speed", action="store_true")
     given = words.parse_args()
     if not all(is_here(it, "the library as plain C isn't checked") for it in ["gcc", "wasm2c", "wasm-opt"]):
@@ -111,6 +128,9 @@ def main() -> None:
         sources.made(builds.DIST)
         if given.speed:
             speed.measure()
+        elif given.program:
+            if not all_pass(of_program(False)):
+                sys.exit("tools/check_portable: something is wrong with the program")
         else:
             check(given.cases, given.seed, given.only)
 
@@ -120,7 +140,7 @@ def check(count: int, seed: int, only: List[str]) -> None:
     calls = agreement.calls_of(count, seed)
     with tempfile.TemporaryDirectory() as folder:
         right = driver.answers([builds.native(folder)], calls)
-    parts = [it for it in [*builds_to_compare(calls, right), *other_parts()] if any(word in it.name for word in only)]
+    parts = [it for it in [*builds_to_compare(calls, right), *other_parts(), *of_program(True)] if any(word in it.name for word in only)]
     if not all_pass(parts):
         sys.exit("tools/check_portable: something is wrong")
     print(f"dist/c: {len(calls)} generated calls agree with libshamir.so in each build, and {len(parts)} checks passed")
