@@ -1,54 +1,18 @@
 //! How the output of a command goes to its writer.
 ghost use Rattle.std.specs.Prelude.{◌≡◌, IsFalse, IsTrue, Err};
 ghost use Rattle.s39_input.specs.Fault.{fault_of};
-ghost use Rattle.s39_cli.specs.Ending.{Delivers, GoesOut, HasStatus, IsFlushed};
-ghost use Rattle.s39_cli.specs.Outcome.{status_of};
-ghost use Rattle.s39_cli.specs.Said.{SaysInRun};
-ghost use Rattle.s39_cli.specs.Untouched.{IsAtItsEnd};
-ghost use Rattle.s39_cli.specs.Work.{IsWorkOutput};
+ghost use Rattle.s39_cli.specs.Ending.{GoesOut, IsFlushed};
 
 use crate::patient::Patient;
-use crate::person::Person;
-use crate::work::Work;
-use s39_tool::{Counting, DeviceFailure, Fault, Refusal};
-use std::io::{Read, Write};
-
-/// What a command answered (whether all is well, or its fault), and its devices.
-#[derive(Drop)]
-pub(crate) struct Finished<R, W> {
-    pub(crate) answer: Result<bool, Fault>,
-    pub(crate) input: R,
-    pub(crate) output: W,
-}
-
-/// Runs a command whose output goes out line by line: each as soon as it is known, and in one piece.
-pub(crate) fn by_lines<R: Read + Drop, W: Write + Drop, E: Write>(
-    work: &Work,
-    input: R,
-    output: W,
-    person: &mut Person<E>,
-) -> Finished<R, W>
-    ensures delivers { Delivers R.remaining W.contents (HasStatus (IsWorkOutput work.now))
-        input output (status_of result.answer) result.input result.output }
-    // Of any devices.
-    ensures untouched { IsAtItsEnd work.now → status_of result.answer ≡ 1 → result.output ≡ output }
-    ensures said { SaysInRun R.remaining E.contents person.old.terminals person.old.is_bare
-        work.now input result.answer person.old person.new }
-{
-    let mut reader = Counting::new(input);
-    let mut writer = Counting::new(Patient::new(output));
-    let answer = work.run(&mut reader, &mut writer, person);
-    let (answer, output) = flushed(answer, writer.into_inner());
-    Finished {
-        answer,
-        input: reader.into_inner(),
-        output,
-    }
-}
+use s39_tool::{DeviceFailure, Fault, Refusal};
+use std::io::Write;
 
 /// Flushes a writer after a run that gave this answer, unless nothing was written or a write failed. If the flush fails, the
 /// answer is that the writer failed.
-fn flushed<W: Write>(answer: Result<bool, Fault>, output: Patient<W>) -> (Result<bool, Fault>, W)
+pub(crate) fn flushed<W: Write>(
+    answer: Result<bool, Fault>,
+    output: Patient<W>,
+) -> (Result<bool, Fault>, W)
     ensures kept { IsFlushed (W.contents output.output) (W.contents result.1) answer result.0 }
     ensures untouched { IsFalse output.is_written → result.1 ≡ output.output }
     ensures failed { (fault : Fault) → answer ≡ Err fault

@@ -8,15 +8,16 @@ ghost use Rattle.s39_cli.specs.Said.{IsSaid, IsSaidOfJob, IsSaidUnread, IsSaidWi
 ghost use Rattle.s39_cli.specs.Untouched.{IsUntouchedBy, IsUntouchedIfRefused};
 ghost use Rattle.s39_cli.specs.Work.{HasBadPassphrase};
 
-use crate::delivery::{by_lines, show_text, write_failed};
+use crate::delivery::{flushed, show_text, write_failed};
 use crate::notes::{NEW_SECRET, SHOWN, TYPING, is_bare, tells_of_drawing};
+use crate::patient::Patient;
 use crate::person::Person;
 use crate::random_file::{NoRandom, random_of};
 use crate::telling::{REASON_BYTES, no_memory_left, report, say_of_file, tell_answer, unbegun};
 use crate::values::{NoFileValue, NoValue, Secrets, Shelf, Values};
 use crate::work::{NoWork, Work};
 use s39_command::{BadValues, Job, NoJob, read_words};
-use s39_tool::Plan;
+use s39_tool::{Counting, Plan};
 use std::alloc::Global;
 use std::fmt::InlineText;
 use std::io::{Read, Write};
@@ -152,7 +153,7 @@ fn random_file<'a>(job: &Job<'a>) -> Option<(&'a str, &'a str)>
     }
 }
 
-/// Does the job with these texts.
+/// Does the job with these texts. Its output goes out line by line: each as soon as it is known, and in one piece.
 fn by_texts<R: Read + Drop, W: Write + Drop, E: Write>(
     alloc: Global,
     job: Job,
@@ -176,8 +177,16 @@ fn by_texts<R: Read + Drop, W: Write + Drop, E: Write>(
     let tells_of_none = work.tells_last(person.hears_of_none());
     let is_asked = asks(types, &work);
     person.say_if(is_asked, TYPING);
-    let finished = by_lines(&work, input, output, person);
-    tell_answer(finished, tells_of_none, person)
+    let mut reader = Counting::new(input);
+    let mut writer = Counting::new(Patient::new(output));
+    let answer = work.run(&mut reader, &mut writer, person);
+    let (answer, output) = flushed(answer, writer.into_inner());
+    let status = tell_answer(answer, tells_of_none, person);
+    Ended::With {
+        status,
+        input: reader.into_inner(),
+        output,
+    }
 }
 
 /// Whether mnemonics are about to be typed.

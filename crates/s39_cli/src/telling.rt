@@ -5,7 +5,6 @@ ghost use Rattle.s39_cli.specs.Ending.{EndsUnbegun};
 ghost use Rattle.s39_cli.specs.Outcome.{status_of, status_of_refusal};
 ghost use Rattle.s39_cli.specs.Said.{IsSaidUnbegun, Says, SaysAnswer, SaysFormless, SaysMessage, file_line, is_attended, memory_line, no_text_line};
 
-use crate::delivery::Finished;
 use crate::notes::{BARE, PLAN_FORM};
 use crate::person::Person;
 use crate::runner::{DEVICE_FAILED, DONE, Ended, NO_JOB, NO_MEMORY, REFUSED};
@@ -106,30 +105,8 @@ pub(crate) fn say_of_file<E: Write>(name: &str, reason: &str, person: &mut Perso
     person.say(text.as_str().as_bytes());
 }
 
-/// Says what a command answered: its fault, or if that is wanted, that no passphrase was used.
-pub(crate) fn tell_answer<R: Drop, W: Drop, E: Write>(
-    finished: Finished<R, W>,
-    tells_of_none: bool,
-    person: &mut Person<E>,
-) -> Ended<R, W>
-    ensures ends { result ≡ Ended.With (status_of finished.answer) finished.input finished.output }
-    ensures said { SaysAnswer E.contents tells_of_none finished.answer person.old person.new }
-{
-    let Finished {
-        answer,
-        input,
-        output,
-    } = finished;
-    let status = status_of(answer, tells_of_none, person);
-    Ended::With {
-        status,
-        input,
-        output,
-    }
-}
-
-/// The exit status of an answer, which is said.
-fn status_of<E: Write>(
+/// Says what a command answered: its fault, or if that is wanted, that no passphrase was used. It gives the exit status.
+pub(crate) fn tell_answer<E: Write>(
     answer: Result<bool, Fault>,
     tells_of_none: bool,
     person: &mut Person<E>,
