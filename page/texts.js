@@ -144,7 +144,7 @@ export const TEXTS = {
   "entry.keys": "If words stand in wrong fields, go to the first of these. Both buttons move all words from there on. Keys for them are Ctrl+Enter and Ctrl+Delete.",
   "entry.beyond": "You typed more than {few} words, so there are {many} fields now. If your paper has {few} words, choose '{few} words' above.",
   "entry.several_papers": "You pasted {count} papers, and only one is wanted here. Paste the words of that one alone.",
-  "entry.left": "Of what you pasted, {papers} after this one aren't read yet. Paste them again, when this one is right or left out.",
+  "entry.left": "What you pasted after this one isn't read yet: {papers}. Paste that again, when this one is right or left out.",
   "entry.other_list": "Many of these words aren't in the list of SLIP-0039. If your backup has 12 or 24 words, it is probably a BIP-39 backup, which is another standard. It isn't converted here.",
   "entry.bip39": "These {count} words aren't all in the list of SLIP-0039. They are probably a BIP-39 backup, which is another standard. This page doesn't convert it: type such words into a wallet that knows BIP-39.",
 

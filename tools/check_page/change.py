@@ -21,6 +21,14 @@ window.watch.observe(document.getElementById('main'), { childList: true, subtree
 null
 """
 SEEN = "window.watch.disconnect(); window.isSeen"
+# Whether the button that ends stands below all that is told, and not over it.
+BELOW = """
+(() => {
+  scrollTo(0, 0);
+  const go = document.querySelector('main > .go');
+  return go.getBoundingClientRect().top >= go.previousElementSibling.getBoundingClientRect().bottom;
+})()
+"""
 
 
 def old_papers(exponent=0):
@@ -83,6 +91,8 @@ def check_done(page, see, what, texts, green, title="change.done"):
         raise Failed("what is to be destroyed is told before what is to be done first")
     check_green(page, green)
     pictures(page, see, what)
+    if not page.evaluate(BELOW):
+        raise Failed("the button that ends stands over what is to be done with the old papers")
 
 
 def check_extendable(page, see):

@@ -173,6 +173,7 @@ FAULTS = [
     ("the fields of words stay beside each other where they have no room", "page/style.css", "  .words { grid-auto-flow: row;", "  .none { grid-auto-flow: row;", looked("light")),
     ("in forced colours, no choice looks chosen", "page/style.css", '  .choice button[aria-checked="true"] { border: 3px solid Highlight; }\n  .choice button[aria-checked="true"]::before', '  .choice button[aria-checked="none"]::before', looked("forced")),
     ("the way on is below the first screen", "page/style.css", ".go { position: sticky;", ".go { position: static;", looked("light")),
+    ("the button that ends covers what is to be done", "page/style.css", ":is(.paper, .verdict) ~ .go", ".paper ~ .go", of_page(lambda page: change.check_renewed(page, unseen))),
     ("what is said of a wrong word covers a field", "page/style.css", "scroll-margin-top: var(--said);", "", of_page(lambda page: choices.check_low(page, unseen))),
     ("a question mark is taken for the end of a word", "page/spelling.js", 'letters.includes("?") || ', "", of_page(lambda page: entry.check_open(page, unseen))),
     ("the rest of a word comes into the next screen", "page/show_paper.js", "isTaken: !isSame,", "isTaken: true,", of_page(lambda page: entry.check_next_screen(page, unseen))),
