@@ -1,4 +1,5 @@
 /** Mnemonics of several backups, kept apart, beside an engine in a worker. */
+import { copiedIn } from "./arguments.js";
 import { Copies, copied } from "./copies.js";
 import { Kept, told } from "./papers.js";
 import { Refusal } from "./refusal.js";
@@ -94,8 +95,14 @@ export class PapersInWorker {
    * @param {AbortSignal} [signal]
    * @returns {Promise<Recovered>}
    */
-  recover(options = {}, signal) {
-    return this.#after(() => this.#ask("recovered", [this.#kept.ofLast, options], signal));
+  async recover(options = {}, signal) {
+    const own = new Copies();
+    try {
+      const given = copiedIn(own, options);
+      return await this.#after(() => this.#ask("recovered", [this.#kept.ofLast, given], signal));
+    } finally {
+      own.clear();
+    }
   }
 
   /** @returns {number[]} */

@@ -10,6 +10,7 @@
  * Each call copies its arguments at once (`drill` and `decryptRounds` at the first `next`), so they may change or be cleared after it.
  * Nobody can clear the copies in the worker: `end` drops them all.
  */
+import { copiedIn } from "./arguments.js";
 import { Copies, plain } from "./copies.js";
 import { PapersInWorker } from "./papers_in_worker.js";
 import { started } from "./side.js";
@@ -26,22 +27,6 @@ import { started } from "./side.js";
 /** @typedef {import("./types.js").Share} Share */
 /** @typedef {import("./types.js").Status} Status */
 /** @typedef {import("./types.js").Text} Text */
-
-/**
- * Returns a copy of an argument, whose arrays have buffers of their own. Options, or an encrypted secret, whose copy would lack what they
- * inherit are refused, and String objects. What else the engine refuses stays as it is.
- * @param {Copies} own
- * @param {any} it
- * @returns {any}
- */
-function copiedIn(own, it) {
-  if (it instanceof String) throw new TypeError("an argument is a String object");
-  if (typeof it !== "object" || it === null) return it;
-  if (ArrayBuffer.isView(it)) return own.data(it, "an argument");
-  if (Symbol.iterator in it) return Array.from(it, (part) => copiedIn(own, part));
-  plain(it);
-  return Object.fromEntries(Object.entries(it).map(([name, part]) => [name, copiedIn(own, part)]));
-}
 
 /**
  * Settles as a promise does, or fails as soon as a signal aborts.

@@ -163,7 +163,10 @@ test("papers in a worker", async (t) => {
   const both = given.map((line) => papers.add(line));
   for (const it of given) it.fill(0);
   assert.deepEqual((await Promise.all(both)).map(({ again }) => again), [false, true]);
-  assert.deepEqual(await papers.recover(KEY), recovered());
+  const passphrase = bytesOf(KEY.passphrase);
+  const later = papers.recover({ passphrase });
+  passphrase.fill(65);
+  assert.deepEqual(await later, recovered());
   const lines = papers.lines(1);
   await papers.clear();
   assert.deepEqual([papers.ids, papers.enough, lines.every((line) => line.every((byte) => byte === 0))], [[], false, true]);
