@@ -968,13 +968,14 @@ SHAMIR_INLINE SHAMIR_STRUCT(1) int shamir_drill_next(shamir_drilling *drilling)
  * there is none. If the fingerprint is NULL, nothing is compared, and an empty one is refused with 44.
  *
  * If a digest of the first quorum doesn't match, shamir_papers_recover tries the others too, and recovers the secret from the first
- * without a mismatch. So one wrong paper doesn't hide what the others give. After success, first is how many quorums have a mismatch, and
- * second is the length of their names, which are at the start of text, with a line feed after each. The field doubtful has the papers
- * that are in such a quorum, and in none without a mismatch: the wrong ones are among them. If the first quorum has no mismatch, no other
- * one is tried, both numbers are 0, and no paper is doubtful. If each has one, the code is 51, with the detail of the first quorum.
+ * without a mismatch. So one wrong paper doesn't hide what the others give. After success, first is how many quorums have a mismatch. Their
+ * names are at the start of text, as many as half of it has room for, with a line feed after each, and second is the length of these. The
+ * field doubtful has the papers that are in such a quorum, and in none without a mismatch: the wrong ones are among them. If the first
+ * quorum has no mismatch, no other one is tried, both numbers are 0, and no paper is doubtful. If each has one, the code is 51, with the
+ * detail of the first quorum. At most 65536 quorums are tried. If there are more, some doubtful papers may be right.
  *
- * For that, text is a room of about 65536 bytes, in which there is no secret. The names of quorums with a mismatch stay in it. At most 65536
- * quorums are tried, and fewer if text has no room for more. After them, some doubtful papers may be right.
+ * For that, text is a room of about 65536 bytes, in which there is no secret. If it has no room for the next quorum, the code is 1, and the
+ * field first is a length that has.
  *
  * These functions stand in the header alone. The caller clears the buffer.
  *
@@ -1206,14 +1207,15 @@ SHAMIR_INLINE SHAMIR_STRUCT(1) shamir_answer shamir_papers_recover(
     drilling.form = SHAMIR_FORM_FINGERPRINTS;
     while (drilling.number < 65536 && shamir_drill_next(&drilling)) {
         bytes = shamir_papers_mark(drilling.names, drilling.has_mismatch ? wrong : right);
-        if (drilling.has_mismatch) {
+        mismatches += drilling.has_mismatch;
+        if (!drilling.has_mismatch && !is_found) {
+            is_found = shamir_papers_mark(drilling.names, chosen) > 0;
+        }
+        if (drilling.has_mismatch && told + bytes < text_bytes / 2) {
             /* The names alone are shorter than the line that had them, so they have room before what comes after it. */
             memcpy(text + told, drilling.names, bytes);
             text[told + bytes] = '\n';
             told += bytes + 1;
-            mismatches++;
-        } else if (!is_found) {
-            is_found = shamir_papers_mark(drilling.names, chosen) > 0;
         }
         if (drilling.at == drilling.end) {
             drilling.text = text + told;
@@ -1221,8 +1223,13 @@ SHAMIR_INLINE SHAMIR_STRUCT(1) shamir_answer shamir_papers_recover(
             drilling.at = drilling.end = 0;
         }
     }
+    if (drilling.answer.code != SHAMIR_DONE) {
+        /* Half of text is for names, and the other half has to have room for the next quorum. */
+        drilling.answer.first *= 2;
+        return drilling.answer;
+    }
     if (!is_found) {
-        return drilling.answer.code == SHAMIR_E_NO_MEMORY ? drilling.answer : answer;
+        return answer;
     }
     bytes = shamir_papers_choose(papers, chosen);
     if (bytes == (size_t)-1) {

@@ -43,6 +43,9 @@ static void recover(shamir_papers *papers, const char *noted, size_t room_bytes)
     int group, member;
 
     printf("code %u bytes %lu", (unsigned)answer.code, (unsigned long)answer.written);
+    if (answer.code == SHAMIR_E_TOO_SHORT) {
+        printf(" needed %lu", (unsigned long)answer.first);
+    }
     for (group = 0; group < SHAMIR_GROUPS_MAX; group++) {
         for (member = 0; member < 16; member++) {
             printf(papers->doubtful[group] >> member & 1 ? " doubtful %d.%d" : "", group, member);
@@ -86,8 +89,8 @@ static void drill(const shamir_papers *papers, const char *noted, const char *fi
 static int is_none(shamir_papers *papers, char *room, size_t room_bytes)
 {
     uint8_t secret[SHAMIR_SECRET_BYTES_MAX] = {0}, same[SHAMIR_SECRET_BYTES_MAX] = {0};
-    const shamir_answer answer = shamir_papers_recover(papers, NULL, SHAMIR_EXPONENT_MAX, NULL, secret, sizeof secret, NULL, 0);
-    const shamir_answer other = shamir_papers_recover(papers, "", SHAMIR_EXPONENT_MAX, NULL, same, sizeof same, NULL, 0);
+    const shamir_answer answer = shamir_papers_recover(papers, NULL, SHAMIR_EXPONENT_MAX, NULL, secret, sizeof secret, room, room_bytes);
+    const shamir_answer other = shamir_papers_recover(papers, "", SHAMIR_EXPONENT_MAX, NULL, same, sizeof same, room, room_bytes);
     shamir_drilling drilling =
         shamir_drill_start(papers->backup, papers->backup_bytes, NULL, SHAMIR_EXPONENT_MAX, "df41d8fe", room, room_bytes);
     const int is_listed = shamir_drill_next(&drilling);
