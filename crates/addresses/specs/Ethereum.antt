@@ -1,4 +1,4 @@
--- Ethereum's address of a public key, with the capitals of ERC-55.
+-- Ethereum's address of a public key (the Yellow Paper, appendix F), with the capitals of ERC-55.
 use Rattle.std.specs.Prelude.{ℕ, ◌/◌, ◌%◌, List, [], ◌∷◌, ◌++◌, map, take, drop, codes, slice_index, nat_lt, if◌then◌else◌}
 use Rattle.keccak.specs.Keccak.{keccak256}
 

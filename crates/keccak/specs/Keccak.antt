@@ -1,6 +1,6 @@
--- Keccak-256: the function Keccak[512] of Bertoni, Daemen, Peeters and Van Assche, with the padding of their submission, which Ethereum
--- has. Section numbers are those of FIPS 202, whose SHA3-256 has other padding alone. A word is a number below 2 ^ 64, and the state
--- has 25: that of column x and row y is at the place x + 5 y.
+-- Keccak-256: the function Keccak[512] of Bertoni, Daemen, Peeters and Van Assche, with the padding of their submission, as Ethereum
+-- has it. Section numbers are those of FIPS 202, whose SHA3-256 differs in the padding alone. A word is a number below 2 ^ 64, and
+-- the state has 25: that of column x and row y is at the place x + 5 y.
 use Rattle.std.specs.Prelude.{ℕ, zero, suc, ◌+◌, ◌-◌, ◌*◌, ◌/◌, ◌%◌, List, [], ◌∷◌, ◌++◌, length, map, replicate, bit_and, bit_xor, slice_index, if◌then◌else◌, nat_eq, nat_lt}
 use Rattle.std.specs.Int.{w64, bit_not, rotate_left, from_le_bytes, to_le_bytes}
 use Rattle.hashes.specs.Blocks.{after_blocks}
@@ -63,7 +63,7 @@ unfoldable pub rounds : List ℕ → ℕ → List ℕ
 rounds a zero = a
 rounds a (suc n) = round (rounds a n) n
 
--- the word at a byte, low byte first (3.1.2)
+-- the word at a byte, low byte first (3.1.2 and B.1)
 abbrev pub word_at : List ℕ → ℕ → ℕ
 word_at b i = from_le_bytes w64
     (slice_index b i ∷ slice_index b (i + 1) ∷ slice_index b (i + 2) ∷ slice_index b (i + 3)
@@ -81,7 +81,7 @@ added a b = map (λ i. if nat_lt i 17 then bit_xor (slice_index a i) (word_at b 
 abbrev pub absorb : List ℕ → List ℕ → List ℕ
 absorb a b = rounds (added a b) 24
 
--- a bit 1, bits 0, and a bit 1, which fill the last block of a message of so many bytes
+-- a bit 1, bits 0, and a bit 1, which fill the last block of a message of so many bytes (5.1)
 abbrev pub padding : ℕ → List ℕ
 padding n = if nat_eq (n % rate) 135 then 0x81 ∷ [] else 1 ∷ (replicate (134 - n % rate) 0 ++ 0x80 ∷ [])
 
