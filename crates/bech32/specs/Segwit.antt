@@ -47,6 +47,7 @@ group_of character = position_or_len (λ l. nat_eq l character) letters
 abbrev pub bech32 : ℕ → List ℕ → List ℕ → List ℕ
 bech32 final prefix values = prefix ++ 49 ∷ map letter (values ++ checksum final prefix values)
 
--- the address of a witness program
+-- The address of a witness program. BIP-173 has human-readable parts of 1 to 83 characters from 33 to 126, in lower case: the caller
+-- sees to this, and that there is such a program (BIP-141).
 abbrev pub address : List ℕ → ℕ → List ℕ → List ℕ
 address prefix version program = bech32 (final_register version) prefix (version ∷ groups program)

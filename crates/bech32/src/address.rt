@@ -12,7 +12,8 @@ pub const MAX_ADDRESS: usize = 90;
 
 pub(crate) const LETTERS: [u8; 32] = *b"qpzry9x8gf2tvdw0s3jn54khce6mua7l";
 
-/// Returns the address of a witness program.
+/// Returns the address of a witness program. Only for a human-readable part in lower case that BIP-173 allows, and a program
+/// that BIP-141 allows for this version, is the text an address.
 pub fn segwit_address(prefix: &[u8], version: u8, program: &[u8]) -> ArrayVec<u8, MAX_ADDRESS>
     requires prefix { length prefix.now ≤ 18 }
     requires version { version ≤ 16 }

@@ -42,6 +42,7 @@ pub enum AddressError {
 /// Reads the address of a witness program, in upper case or in lower case.
 ///
 /// Just the addresses with this human-readable part are read, each as its version and program (`laws::addresses_are_read`).
+/// Whether BIP-173 allows this part isn't looked at.
 pub fn read_segwit_address(prefix: &[u8], text: &[u8]) -> Result<WitnessProgram, AddressError>
     requires { length prefix.now ≤ 18 }
     ensures { MatchResult result
