@@ -21,7 +21,8 @@ on_line x y other_x slope =
     let third_x : ℕ = ((slope ⊗ slope) ⊖ x) ⊖ other_x in
     Finite (record { x = third_x; y = (slope ⊗ (x ⊖ third_x)) ⊖ y })
 
--- The sum of two points: rules 1 and 2 of SEC 1, then 3 and 5 for points at one x, and 4 for others. Infinity is its O.
+-- The sum of two points: rules 1 and 2 of SEC 1, then 3 and 5 for points at one x, and 4 for others. Infinity is its O. On the
+-- curve, points at one x are equal or opposite.
 abbrev pub sum_of : Point → Point → Point
 sum_of Infinity q = q
 sum_of (Finite a) Infinity = Finite a

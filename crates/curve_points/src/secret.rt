@@ -9,9 +9,9 @@ use crate::jacobian::Jacobian;
 use crate::point::{Affine, Point};
 use curve_field::{FieldElement, Scalar, sum};
 
-/// Returns this multiple of the point. Each of 256 steps doubles, adds by each formula, and selects. So no address depends
-/// on the scalar, and one branch: whether the multiple is infinity. A random scalar meets this once in 2^256 if the point is
-/// the generator, namely if it's 0.
+/// Returns this multiple of the point. Each of 256 steps doubles, adds by the formula for points at distinct x, and selects
+/// among the results of all cases. So no address depends on the scalar, and one branch: whether the multiple is infinity. A
+/// random scalar meets this once in 2^256 if the point is the generator, namely if it's 0.
 pub fn secret_multiple(point: &Affine, scalar: Scalar) -> Point
     ensures { result ≡ multiple 256 scalar (Point.Finite point.now) }
 {
