@@ -1,4 +1,5 @@
 /** Mnemonics of several backups, kept apart. */
+import { wholeNumber } from "./copies.js";
 import { Code, Refusal } from "./refusal.js";
 
 /** @typedef {import("./shamir.js").Engine} TheEngine */
@@ -101,6 +102,8 @@ export class Kept {
    * @param {string} name
    */
   without(id, name) {
+    wholeNumber(id, "the identifier", 2 ** 16 - 1);
+    if (typeof name !== "string") throw new TypeError("the name isn't a string");
     const left = this.#papers.filter((it) => it.id !== id || it.name !== name);
     return left.length === this.#papers.length ? null : left.filter((it) => it.id === this.#last).map(({ line }) => line);
   }

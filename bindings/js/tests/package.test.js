@@ -119,6 +119,8 @@ async function checkWrongPapers(papers) {
   await papers.add(FIVE[2]);
   assert.deepEqual(await papers.recover(KEY), recovered([...two, "0.0+0.2+1.0", "0.0+0.2+2.0"], ["0.0"]));
   assert.deepEqual([await papers.remove(1, "0.3"), await papers.remove(2, "0.0"), papers.enough], [false, false, true]);
+  await assert.rejects(async () => papers.remove("1", "0.0"), /^TypeError: the identifier isn't a number$/);
+  await assert.rejects(async () => papers.remove(1, 0), /^TypeError: the name isn't a string$/);
   await assert.rejects(async () => papers.add(FIVE[0]), { code: 28 });
   const [forged] = papers.lines(1);
   assert.deepEqual([await papers.remove(1, "0.0"), papers.enough, forged], [true, true, new Uint8Array(forged.length)]);

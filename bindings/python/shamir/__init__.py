@@ -634,7 +634,7 @@ class _Copies:
 
     def line(self, line: Text, name: str) -> Tuple[Any, int]:
         """Return a copy of a line, and its length without the line feed that may end it, as `_bare` returns it."""
-        copy, length = self.data(_encoded(line, name) if isinstance(line, str) else line, name)
+        copy, length = self.joined([_view(_encoded(line, name) if isinstance(line, str) else line, name, "a text")])
         return copy, length - (copy[length - 1 : length] == b"\n")
 
     def lines(self, lines: ClearableLines) -> Tuple[Any, int]:
@@ -1108,15 +1108,16 @@ class Papers:
         self._last, self._enough = share.id, found.status.enough
         return found
 
-    def remove(self, id: int, name: str) -> bool:
+    def remove(self, id: int, name: Text) -> bool:
         """Take out the mnemonic with this name, such as `0.1`, in the backup with an identifier, clear it, and return whether it was here.
 
         So a forged one can make room for the right one, which is refused with 28 beside it.
         """
-        left = [paper for paper in self._kept if (paper.id, paper.name) != (id, name)]
+        wanted = _number(id, ctypes.c_uint16, "id"), _bytes(name, "name").decode("utf-8", "replace")
+        left = [paper for paper in self._kept if (paper.id, paper.name) != wanted]
         lines = [paper.line for paper in left if paper.id == self._last]
         is_enough = bool(lines) and _has_quorum(lines)
-        taken_out = [paper for paper in self._kept if (paper.id, paper.name) == (id, name)]
+        taken_out = [paper for paper in self._kept if (paper.id, paper.name) == wanted]
         self._kept, self._enough = left, is_enough
         for paper in taken_out:
             _library.shamir_wipe(*_room(paper.line))

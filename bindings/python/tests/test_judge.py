@@ -176,7 +176,7 @@ class Papers(unittest.TestCase):
         self.assertEqual((papers.enough, papers.recover(**noted)), (True, shamir.Recovered(SECRET)))
         self.assertEqual([line.decode() for line in papers.lines(ID)], [FIVE[1], FIVE[3], FIVE[0]])
         # A paper of another backup changes nothing for this one.
-        self.assertEqual((papers.remove(7945, "0.0"), papers.ids, papers.enough), (True, [ID], True))
+        self.assertEqual((papers.remove(7945, b"0.0"), papers.ids, papers.enough), (True, [ID], True))
         for name in ["0.0", "0.1", "1.0"]:
             self.assertTrue(papers.remove(ID, name))
         self.assertEqual((papers.ids, papers.enough, refusal_of(papers.recover).code), ([], False, 29))

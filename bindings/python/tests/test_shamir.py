@@ -776,7 +776,9 @@ class WorkedExamples(unittest.TestCase):
         other, text, data = "but of type int", "isn't a text", "isn't an object with the buffer protocol"
         for told, kind, call in [
             (f"mnemonic {text}, {other}", TypeError, lambda: shamir.parse(7)),
-            (f"mnemonic {data}, {other}", TypeError, lambda: shamir.judge([], 7)),
+            (f"mnemonic {text}, {other}", TypeError, lambda: shamir.judge([], 7)),
+            ("id isn't a whole number, but of type str", TypeError, lambda: shamir.Papers().remove("7945", "0.0")),
+            (f"name {text}, {other}", TypeError, lambda: shamir.Papers().remove(7945, 7)),
             (f"line {text}, {other}", TypeError, lambda: shamir.repair(7)),
             (f"letters {text}, {other}", TypeError, lambda: shamir.words(7)),
             (f"plan {text}, {other}", TypeError, lambda: shamir.random_needed(7, 16)),
