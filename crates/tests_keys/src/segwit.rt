@@ -1,4 +1,5 @@
-//! Tests of `bech32`. Their values are the valid and invalid addresses of BIP-350, which holds those of BIP-173.
+//! Tests of `bech32`. Their values are the valid and invalid addresses of BIP-350, which replace those of BIP-173, and a text of 91
+//! letters.
 use bech32::{AddressError, read_segwit_address, segwit_address};
 
 #[test]
