@@ -10,7 +10,7 @@
 #                    `make deb` with this TARGET build the packages for arm64
 #   make prove-NAME  proves a library of crates/, after those that it uses
 #   make test-NAME   proves and runs the tests of a library, after the libraries that it uses
-#   make edits       tries the wrong bodies of wrong-bodies/ in rounds, as `make test` does
+#   make edits       tries the wrong bodies of crates/*/wrong-bodies.edits in rounds, as `make test` does
 #   make twins       tries the twins of all wrong bodies
 #   make wasm        proves and builds the library for WebAssembly: shamir.wasm, with 64-bit memory, and shamir32.wasm, with
 #                    32-bit memory

@@ -1,15 +1,17 @@
-"""A must-fail edit, or its twin, and the functions that it changes."""
+"""The wrong bodies of crates, each an edit of the sources, their twins, and the functions that they change."""
 import dataclasses
 import pathlib
 import re
 
+# The wrong bodies of a crate, but those that `rt ci` tries.
+LIST = "wrong-bodies.edits"
 # `rt fmt` writes each function with its first line and its last brace at one indentation.
 FUNCTION = re.compile(r"^( *)(?:pub(?:\([a-z:_ ]+\))? )?(?:final |const |unsafe |extern \"C\" )*fn (\w+)")
 IMPL = re.compile(r"^impl(?:<[^{]*?>)? (?:([\w:]+)(<.*>)? for )?&?(?:'\w+ )?(?:\w+::)*(\w+)")
 
 
 class Unfit(Exception):
-    """An `old:` text doesn't occur exactly once in its file."""
+    """An edit can't be read, or an `old:` text of it doesn't occur exactly once in its file."""
 
 
 @dataclasses.dataclass(frozen=True)
@@ -39,14 +41,14 @@ class Edit:
         return dataclasses.replace(self, folder="twins", pairs=pairs, reason=None)
 
     def __str__(self) -> str:
-        return f"{self.crate}/{self.folder}/{self.name}"
+        return f"{self.crate}/{self.name}"
 
 
-def read(path: pathlib.Path) -> Edit:
+def of_lines(crate: str, folder: str, name: str, lines: list[str]) -> Edit:
     pairs: list[Pair] = []
     file = old = ""
     reason = law = None
-    for line in path.read_text(encoding="utf-8").splitlines():
+    for line in lines:
         word, _, text = line.partition(":")
         text = text.removeprefix(" ")
         if word == "file":
@@ -61,7 +63,30 @@ def read(path: pathlib.Path) -> Edit:
             reason = text
         elif word == "law":
             law = text.strip()
-    return Edit(path.parent.parent.name, path.parent.name, path.stem, tuple(pairs), reason, law)
+        elif folder == LIST:
+            raise Unfit(f"{crate}/{LIST}: no line of an edit begins as this one does: {line}")
+    return Edit(crate, folder, name, tuple(pairs), reason, law)
+
+
+def listed(text: str, crate: str) -> list[Edit]:
+    """Returns the edits of a list. Each is a paragraph, whose first line is `edit: NAME`."""
+    found = []
+    for first, *lines in (it.split("\n") for it in re.split(r"\n{2,}", text.strip("\n")) if it):
+        if not (named := re.fullmatch(r"edit: (\w+)", first)):
+            raise Unfit(f"{crate}/{LIST}: a paragraph begins with '{first}' and not with the name of an edit")
+        found.append(of_lines(crate, LIST, named[1], lines))
+    return found
+
+
+def of_crate(folder: pathlib.Path, *kinds: str) -> list[Edit]:
+    """Returns the edits of the crate in this folder, of `must-fail`, of its list, or of both, by their names."""
+    found = [it for kind in kinds if kind == LIST and (folder / LIST).exists() for it in listed((folder / LIST).read_text(encoding="utf-8"), folder.name)]
+    for path in (folder / "must-fail").glob("*.edit") if "must-fail" in kinds else ():
+        found.append(of_lines(folder.name, "must-fail", path.stem, path.read_text(encoding="utf-8").splitlines()))
+    names = [it.name for it in found]
+    if twice := {it for it in names if names.count(it) > 1}:
+        raise Unfit(f"{folder.name}: two edits have the name {', '.join(sorted(twice))}")
+    return sorted(found, key=lambda it: it.name)
 
 
 def written(edit: Edit, folder: pathlib.Path, texts: dict[str, str]) -> dict[str, str]:
