@@ -1,5 +1,6 @@
 /*
  * shamir.h: SLIP-0039 backups of a master secret, for C and C++. The manual page shamir(3) is made of these comments.
+ * SPDX-License-Identifier: MIT
  *
  * The library creates backups, reads and judges mnemonics, recovers secrets and runs drills. It also reports whether mnemonics are
  * enough for a recovery, counts quorums, gives and decrypts encrypted secrets and creates backups of them, computes lost mnemonics and
@@ -377,7 +378,9 @@ shamir_answer shamir_recover(
  * Gives the encrypted secret of a backup, which shamir_decrypt decrypts with a passphrase.
  *
  * lines is as for shamir_recover, and the call combines the same quorum. It takes no passphrase and no iterations. So a program that
- * asks for the passphrase each time can keep the encrypted secret, with its parameters, in place of the mnemonics.
+ * asks for the passphrase each time can keep the encrypted secret, with its parameters, in place of the mnemonics. If the backup is
+ * extendable, shamir_create_from_encrypted writes them as the one mnemonic of the plan 1of1, of which this call gives them again, with
+ * another identifier.
  *
  * The parameters go to *parameters, and the encrypted secret goes to the start of encrypted. written is its length, which is that of
  * the secret. If you only want the parameters, let encrypted_bytes be 0: the call then refuses with 1, and *parameters has them. If
@@ -824,144 +827,22 @@ SHAMIR_CALL_IGNORABLE
 void shamir_wipe(void *buffer, size_t buffer_bytes);
 
 /*
- * Mnemonics as they come, one after the other, of one backup or of several. The library decides about each.
- *
- * Set lines to a buffer of lines_bytes bytes, and all other fields to 0. Then shamir_papers_add takes one mnemonic after the other,
- * and gives the answer and the text of shamir_judge. It keeps a mnemonic that isn't there yet, in lower-case words with single
- * spaces. If the buffer has no room for it, the code is 1, and the field first is the number of bytes that it takes. The code is
- * 1, too, if the status takes more bytes than text has; SHAMIR_STATUS_BYTES_MAX are always enough. If a mnemonic is refused, no
- * field of the struct changes. If the code is 1 or 4, text may be changed.
- *
- * The field backup has the lines of the backup of the mnemonic that came last. Calls that take lines take them.
- * shamir_papers_recover calls shamir_recover with them. A NUL ends its passphrase and its fingerprint. If the passphrase is NULL,
- * there is none. If the fingerprint is NULL, nothing is compared, and an empty one is refused with 44. Every exponent is allowed.
- *
- * These functions stand in the header alone. The caller clears the buffer.
- *
- *     shamir_papers papers = {.lines = lines, .lines_bytes = sizeof lines};
- *     shamir_answer answer = shamir_papers_add(&papers, line, strlen(line), text, sizeof text);
- *     if (papers.enough) {
- *         answer = shamir_papers_recover(&papers, "TREZOR", "df41d8fe", secret, sizeof secret);
- *     }
- */
-typedef struct shamir_papers {
-    char *lines;         /* the buffer for all mnemonics; those of one backup stand together */
-    size_t lines_bytes;  /* its length */
-    size_t used;         /* how many bytes of it have mnemonics */
-    const char *backup;  /* the lines of the backup of the mnemonic that came last */
-    size_t backup_bytes; /* their length */
-    uint8_t again;       /* 1 if the mnemonic that came last was there already, else 0 */
-    uint8_t enough;      /* 1 if the mnemonics of its backup are enough for a recovery, else 0 */
-} shamir_papers;
-
-/* For shamir_papers_add: finds the lines of a backup, and returns where they end. If there are none, their place is after all others.
-   If the library refuses to read one, because as plain C it has no memory, it returns (size_t)-1, and changes nothing. */
-SHAMIR_INLINE SHAMIR_STRUCT(1) size_t shamir_papers_find(shamir_papers *papers, uint16_t id)
-{
-    shamir_share share;
-    shamir_answer answer;
-    size_t at, end, found_at = papers->used, found_end = papers->used;
-
-    for (at = 0; at < papers->used; at = end) {
-        for (end = at; papers->lines[end] != '\n'; end++) {
-        }
-        /* The call has no room for the value, so it refuses with 1, and gives the fields. */
-        answer = shamir_parse(papers->lines + at, end - at, &share, NULL, 0);
-        if (answer.code != SHAMIR_E_TOO_SHORT) {
-            return (size_t)-1;
-        }
-        end++;
-        if (share.id == id) {
-            found_at = found_end == papers->used ? at : found_at;
-            found_end = end;
-        }
-    }
-    papers->backup = papers->lines + found_at;
-    papers->backup_bytes = found_end - found_at;
-    return found_end;
-}
-
-/* For shamir_papers_add: moves bytes behind those that are used to a place among these. No copy is left, as it exchanges bytes. */
-SHAMIR_INLINE SHAMIR_STRUCT(1) size_t shamir_papers_move(shamir_papers *papers, size_t place, size_t bytes)
-{
-    size_t middle = papers->used, next = papers->used, end = papers->used + bytes;
-    char moved;
-
-    while (bytes > 0 && place != next) {
-        moved = papers->lines[place];
-        papers->lines[place++] = papers->lines[next];
-        papers->lines[next++] = moved;
-        if (next == end) {
-            next = middle;
-        } else if (place == middle) {
-            middle = next;
-        }
-    }
-    return end;
-}
-
-/* Judges a mnemonic beside those that are there, and keeps it unless it is one of them. */
-SHAMIR_INLINE SHAMIR_STRUCT(1) shamir_answer shamir_papers_add(
-    shamir_papers *papers, const char *line, size_t line_bytes, char *text, size_t text_bytes)
-{
-    shamir_judgement found;
-    shamir_answer kept, answer = shamir_judge(papers->lines, papers->used, line, line_bytes, &found, text, text_bytes);
-    size_t place, bytes = 0;
-
-    if (answer.code != SHAMIR_DONE) {
-        return answer;
-    }
-    if (!found.again) {
-        /* A mnemonic without open places fits itself alone. In C, not even 0 may be added to a pointer that is NULL. */
-        kept = shamir_repair(
-            line, line_bytes, papers->lines == NULL ? NULL : papers->lines + papers->used, papers->lines_bytes - papers->used);
-        if (kept.code != SHAMIR_DONE) {
-            return kept;
-        }
-        bytes = (size_t)kept.written;
-    }
-    place = shamir_papers_find(papers, found.share.id);
-    if (place == (size_t)-1) {
-        memset(&answer, 0, sizeof answer);
-        answer.code = SHAMIR_E_NO_MEMORY;
-        return answer;
-    }
-    papers->used = shamir_papers_move(papers, place, bytes);
-    papers->backup_bytes += bytes;
-    papers->again = found.again;
-    papers->enough = answer.first >= answer.second;
-    return answer;
-}
-
-/* For the functions below: a fingerprint as the library takes it. There, an empty one is none, so one that is refused takes its place. */
-SHAMIR_INLINE const char *shamir_expected(const char *expected) { return expected == NULL ? "" : *expected ? expected : "-"; }
-
-/* Recovers the secret of the backup of the mnemonic that came last. */
-SHAMIR_INLINE SHAMIR_STRUCT(1) shamir_answer shamir_papers_recover(
-    const shamir_papers *papers, const char *passphrase, const char *expected, uint8_t *secret, size_t secret_bytes)
-{
-    const char *key = passphrase == NULL ? "" : passphrase, *noted = shamir_expected(expected);
-
-    return shamir_recover(
-        papers->backup, papers->backup_bytes, key, strlen(key), SHAMIR_EXPONENT_MAX, noted, strlen(noted), secret, secret_bytes);
-}
-
-/*
  * A drill that goes from quorum to quorum, and compares each secret with a noted fingerprint.
  *
- * shamir_drill_start takes mnemonics as shamir_drill does, a passphrase and the noted fingerprint, each of which a NUL ends, and a
- * room of about 65536 bytes for parts of the listing, in which there is no secret. All of these must stay until the drill ends.
- * Every exponent is allowed. If the passphrase is NULL, there is none. A fingerprint that is NULL or empty is refused with 44.
+ * shamir_drill_start takes mnemonics, a maximum exponent and a passphrase as shamir_drill does, the noted fingerprint, and a room of
+ * about 65536 bytes for parts of the listing, in which there is no secret. A NUL ends passphrase and fingerprint. All of these must stay
+ * until the drill ends. If the passphrase is NULL, there is none. A fingerprint that is NULL or empty is refused with 44.
  *
- * shamir_drill_next goes on to the next quorum, and returns 1. If no quorum is left, or if the library refuses, it returns 0, and the
- * field answer says which. The refusals are those of shamir_drill. A program can stop after each quorum. A later drill goes on after
- * it if the field names gets its names before the first shamir_drill_next. It counts from 1, unless the field number gets another number.
+ * shamir_drill_next goes on to the next quorum, and returns 1. If as_expected is 0, has_mismatch says whether a digest doesn't match or
+ * the quorum gives another secret. If no quorum is left, or if the library refuses, it returns 0, and the field answer says which. The
+ * refusals are those of shamir_drill. A program can stop after each quorum. A later drill goes on after it if the field names gets its
+ * names before the first shamir_drill_next. It counts from 1, unless the field number gets another number.
  *
  * These functions stand in the header alone.
  *
- *     shamir_drilling drilling = shamir_drill_start(lines, lines_bytes, "TREZOR", "df41d8fe", text, sizeof text);
+ *     shamir_drilling drilling = shamir_drill_start(lines, lines_bytes, "TREZOR", SHAMIR_EXPONENT_MAX, "df41d8fe", text, sizeof text);
  *     while (shamir_drill_next(&drilling)) {
- *         printf("%s %d\n", drilling.names, drilling.as_expected);
+ *         printf("%s %s\n", drilling.names, drilling.as_expected ? "right" : drilling.has_mismatch ? "mismatch" : "other secret");
  *     }
  */
 typedef struct shamir_drilling {
@@ -976,14 +857,22 @@ typedef struct shamir_drilling {
     uint64_t number;        /* the number of this quorum, from 1 */
     uint64_t quorums;       /* how many quorums there are, or UINT64_MAX if there are more */
     shamir_answer answer;   /* SHAMIR_DONE, with nothing written, or why the library refuses */
+    uint32_t max_exponent;
+    uint32_t form;          /* the form of the listing */
     char names[SHAMIR_NAMES_BYTES_MAX + 1]; /* the names of this quorum, with a NUL after them */
     uint8_t as_expected;    /* 1 if its secret has the noted fingerprint, else 0 */
+    uint8_t has_mismatch;   /* 1 if a digest of it doesn't match, else 0 */
+    uint8_t mismatch;       /* then the lowest group whose digest doesn't match, or SHAMIR_OF_GROUPS; else 0 */
     uint8_t is_last;        /* 1 if no part is left, else 0 */
 } shamir_drilling;
 
+/* A fingerprint as the library takes it. There, an empty one is none, so one that is refused takes its place. */
+SHAMIR_INLINE const char *shamir_expected(const char *expected) { return expected == NULL ? "" : *expected ? expected : "-"; }
+
 /* Prepares a drill. */
 SHAMIR_INLINE shamir_drilling shamir_drill_start(
-    const char *lines, size_t lines_bytes, const char *passphrase, const char *expected, char *text, size_t text_bytes)
+    const char *lines, size_t lines_bytes, const char *passphrase, uint32_t max_exponent, const char *expected, char *text,
+    size_t text_bytes)
 {
     shamir_drilling drilling;
 
@@ -994,6 +883,8 @@ SHAMIR_INLINE shamir_drilling shamir_drill_start(
     drilling.expected = expected;
     drilling.text = text;
     drilling.text_bytes = text_bytes;
+    drilling.max_exponent = max_exponent;
+    drilling.form = SHAMIR_FORM_EXPECTED;
     return drilling;
 }
 
@@ -1002,8 +893,8 @@ SHAMIR_INLINE SHAMIR_STRUCT(1) int shamir_drill_list(shamir_drilling *drilling)
 {
     const char *noted = shamir_expected(drilling->expected);
     const shamir_answer listed = shamir_drill(
-        drilling->lines, drilling->lines_bytes, drilling->passphrase, strlen(drilling->passphrase), SHAMIR_EXPONENT_MAX, drilling->names,
-        strlen(drilling->names), 0xffffffffu, SHAMIR_FORM_EXPECTED, noted, strlen(noted), drilling->text, drilling->text_bytes);
+        drilling->lines, drilling->lines_bytes, drilling->passphrase, strlen(drilling->passphrase), drilling->max_exponent, drilling->names,
+        strlen(drilling->names), 0xffffffffu, drilling->form, noted, strlen(noted), drilling->text, drilling->text_bytes);
 
     drilling->is_last = 1;
     if (listed.code != SHAMIR_DONE) {
@@ -1024,6 +915,24 @@ SHAMIR_INLINE SHAMIR_STRUCT(1) int shamir_drill_list(shamir_drilling *drilling)
     return drilling->end > 0;
 }
 
+/* For shamir_drill_next: reads what a line tells after the names. A mismatch of the group shares has no number. */
+SHAMIR_INLINE SHAMIR_STRUCT(1) size_t shamir_drill_read(shamir_drilling *drilling)
+{
+    const char *told = drilling->text + drilling->at;
+    unsigned group = SHAMIR_OF_GROUPS;
+    size_t bytes = 0;
+
+    drilling->as_expected = strncmp(told, " as expected\n", 13) == 0;
+    drilling->has_mismatch = strncmp(told, " digest mismatch ", 17) == 0;
+    for (; told[bytes] != '\n'; bytes++) {
+        if ('0' <= told[bytes] && told[bytes] <= '9') {
+            group = (group == SHAMIR_OF_GROUPS ? 0 : 10 * group) + (unsigned)(told[bytes] - '0');
+        }
+    }
+    drilling->mismatch = (uint8_t)(drilling->has_mismatch ? group : 0);
+    return bytes + 1;
+}
+
 /* Goes on to the next quorum of a drill. */
 SHAMIR_INLINE SHAMIR_STRUCT(1) int shamir_drill_next(shamir_drilling *drilling)
 {
@@ -1036,11 +945,305 @@ SHAMIR_INLINE SHAMIR_STRUCT(1) int shamir_drill_next(shamir_drilling *drilling)
         drilling->names[count++] = drilling->text[drilling->at++];
     }
     drilling->names[count] = '\0';
-    drilling->as_expected = strncmp(drilling->text + drilling->at, " as expected\n", 13) == 0;
-    while (drilling->text[drilling->at++] != '\n') {
-    }
+    drilling->at += shamir_drill_read(drilling);
     drilling->number++;
     return 1;
+}
+
+/*
+ * Mnemonics as they come, one after the other, of one backup or of several. The library decides about each.
+ *
+ * Set lines to a buffer of lines_bytes bytes, and all other fields to 0. Then shamir_papers_add takes one mnemonic after the other,
+ * and gives the answer and the text of shamir_judge. A line feed may end it. It keeps a mnemonic that isn't there yet, in lower-case words
+ * with single spaces. If the buffer has no room for it, the code is 1, and the field first is the number of bytes that it takes. The code
+ * is 1, too, if the status takes more bytes than text has; SHAMIR_STATUS_BYTES_MAX are always enough. If a mnemonic is refused, no
+ * field of the struct changes. If the code is 1 or 4, text may be changed.
+ *
+ * shamir_papers_remove takes out the mnemonic of this group and member of the backup with this identifier, and clears it. The field first
+ * of its answer is 1, or 0 if there is none. So a forged paper can make room for the right one, which is refused with 28 beside it. The only
+ * refusal is 4.
+ *
+ * The field backup has the lines of the backup of the mnemonic that came last. Calls that take lines take them.
+ * shamir_papers_recover calls shamir_recover with them. A NUL ends its passphrase and its fingerprint. If the passphrase is NULL,
+ * there is none. If the fingerprint is NULL, nothing is compared, and an empty one is refused with 44.
+ *
+ * If a digest of the first quorum doesn't match, shamir_papers_recover tries the others too, and recovers the secret from the first
+ * without a mismatch. So one wrong paper doesn't hide what the others give. After success, first is how many quorums have a mismatch. Their
+ * names are at the start of text, as many as half of it has room for, with a line feed after each, and second is the length of these. The
+ * field doubtful has the papers that are in such a quorum, and in none without a mismatch: the wrong ones are among them. If the first
+ * quorum has no mismatch, no other one is tried, both numbers are 0, and no paper is doubtful. If each has one, the code is 51, with the
+ * detail of the first quorum. At most 65536 quorums are tried. If there are more, some doubtful papers may be right.
+ *
+ * For that, text is a room of about 65536 bytes, in which there is no secret. If it has no room for the next quorum, the code is 1, and the
+ * field first is a length that has.
+ *
+ * These functions stand in the header alone. The caller clears the buffer.
+ *
+ *     shamir_papers papers = {.lines = lines, .lines_bytes = sizeof lines};
+ *     shamir_answer answer = shamir_papers_add(&papers, line, strlen(line), text, sizeof text);
+ *     if (papers.enough) {
+ *         answer = shamir_papers_recover(
+ *             &papers, "TREZOR", SHAMIR_EXPONENT_MAX, "df41d8fe", secret, sizeof secret, text, sizeof text);
+ *     }
+ */
+typedef struct shamir_papers {
+    char *lines;         /* the buffer for all mnemonics; those of one backup stand together */
+    size_t lines_bytes;  /* its length */
+    size_t used;         /* how many bytes of it have mnemonics */
+    const char *backup;  /* the lines of the backup of the mnemonic that came last */
+    size_t backup_bytes; /* their length */
+    uint8_t again;       /* 1 if the mnemonic that came last was there already, else 0 */
+    uint8_t enough;      /* 1 if the mnemonics of its backup are enough for a recovery, else 0 */
+    uint16_t doubtful[SHAMIR_GROUPS_MAX]; /* after a recovery, bit M of the number G is 1 if member M of group G is doubtful */
+} shamir_papers;
+
+/* For the functions below: gives the fields of the mnemonic at a place, and returns where its line ends. If the library refuses to read
+   it, because as plain C it has no memory, it returns (size_t)-1. */
+SHAMIR_INLINE SHAMIR_STRUCT(1) size_t shamir_papers_read(const shamir_papers *papers, size_t at, shamir_share *share)
+{
+    size_t end = at;
+    shamir_answer answer;
+
+    while (papers->lines[end] != '\n') {
+        end++;
+    }
+    /* The call has no room for the value, so it refuses with 1, and gives the fields. */
+    answer = shamir_parse(papers->lines + at, end - at, share, NULL, 0);
+    return answer.code == SHAMIR_E_TOO_SHORT ? end + 1 : (size_t)-1;
+}
+
+/* For shamir_papers_add: finds the lines of a backup, and returns where they end. If there are none, their place is after all others.
+   If there is no memory, it returns (size_t)-1, and changes nothing. */
+SHAMIR_INLINE SHAMIR_STRUCT(1) size_t shamir_papers_find(shamir_papers *papers, uint16_t id)
+{
+    shamir_share share;
+    size_t at, end, found_at = papers->used, found_end = papers->used;
+
+    for (at = 0; at < papers->used; at = end) {
+        end = shamir_papers_read(papers, at, &share);
+        if (end == (size_t)-1) {
+            return end;
+        }
+        if (share.id == id) {
+            found_at = found_end == papers->used ? at : found_at;
+            found_end = end;
+        }
+    }
+    papers->backup = papers->lines + found_at;
+    papers->backup_bytes = found_end - found_at;
+    return found_end;
+}
+
+/* For the functions below: moves bytes behind those that are used to a place among these, and returns where they all end. No copy is
+   left, as it exchanges bytes. */
+SHAMIR_INLINE SHAMIR_STRUCT(1) size_t shamir_papers_move(const shamir_papers *papers, size_t used, size_t place, size_t bytes)
+{
+    size_t middle = used, next = used, end = used + bytes;
+    char moved;
+
+    while (bytes > 0 && place != next) {
+        moved = papers->lines[place];
+        papers->lines[place++] = papers->lines[next];
+        papers->lines[next++] = moved;
+        if (next == end) {
+            next = middle;
+        } else if (place == middle) {
+            middle = next;
+        }
+    }
+    return end;
+}
+
+/* For the functions below: an answer with this code, and nothing else. */
+SHAMIR_INLINE shamir_answer shamir_answer_of(uint32_t code)
+{
+    shamir_answer answer;
+
+    memset(&answer, 0, sizeof answer);
+    answer.code = code;
+    return answer;
+}
+
+/* Judges a mnemonic beside those that are there, and keeps it unless it is one of them. */
+SHAMIR_INLINE SHAMIR_STRUCT(1) shamir_answer shamir_papers_add(
+    shamir_papers *papers, const char *line, size_t line_bytes, char *text, size_t text_bytes)
+{
+    const size_t read = line_bytes > 0 && line[line_bytes - 1] == '\n' ? line_bytes - 1 : line_bytes;
+    shamir_judgement found;
+    shamir_answer kept, answer = shamir_judge(papers->lines, papers->used, line, read, &found, text, text_bytes);
+    size_t place, bytes = 0;
+
+    if (answer.code != SHAMIR_DONE) {
+        return answer;
+    }
+    if (!found.again) {
+        /* A mnemonic without open places fits itself alone. In C, not even 0 may be added to a pointer that is NULL. */
+        kept = shamir_repair(
+            line, read, papers->lines == NULL ? NULL : papers->lines + papers->used, papers->lines_bytes - papers->used);
+        if (kept.code != SHAMIR_DONE) {
+            return kept;
+        }
+        bytes = (size_t)kept.written;
+    }
+    place = shamir_papers_find(papers, found.share.id);
+    if (place == (size_t)-1) {
+        return shamir_answer_of(SHAMIR_E_NO_MEMORY);
+    }
+    papers->used = shamir_papers_move(papers, papers->used, place, bytes);
+    papers->backup_bytes += bytes;
+    papers->again = found.again;
+    papers->enough = answer.first >= answer.second;
+    return answer;
+}
+
+/* For shamir_papers_remove: takes out the line between two places, and counts again what is left of the backup that came last. If the
+   library refuses that, the line comes back to its place. */
+SHAMIR_INLINE SHAMIR_STRUCT(1) shamir_answer shamir_papers_take_out(shamir_papers *papers, size_t at, size_t end)
+{
+    const size_t bytes = end - at, used = papers->used, start = (size_t)(papers->backup - papers->lines);
+    const int is_in_backup = start <= at && at < start + papers->backup_bytes;
+    const size_t left = papers->backup_bytes - (is_in_backup ? bytes : 0);
+    shamir_answer answer = shamir_answer_of(SHAMIR_DONE);
+
+    papers->used = shamir_papers_move(papers, end, at, used - end) - bytes;
+    if (is_in_backup && left > 0) {
+        answer = shamir_quorums(papers->backup, left);
+        if (answer.code != SHAMIR_DONE) {
+            papers->used = shamir_papers_move(papers, papers->used, at, bytes);
+            return answer;
+        }
+    }
+    papers->backup -= at < start ? bytes : 0;
+    papers->backup_bytes = left;
+    papers->enough = is_in_backup ? answer.first > 0 : papers->enough;
+    shamir_wipe(papers->lines + papers->used, bytes);
+    answer.first = 1;
+    return answer;
+}
+
+/* Takes out the mnemonic of a group and a member of a backup. */
+SHAMIR_INLINE SHAMIR_STRUCT(1) shamir_answer shamir_papers_remove(shamir_papers *papers, uint16_t id, uint8_t group, uint8_t member)
+{
+    shamir_share share;
+    size_t at, end;
+
+    for (at = 0; at < papers->used; at = end) {
+        end = shamir_papers_read(papers, at, &share);
+        if (end == (size_t)-1) {
+            return shamir_answer_of(SHAMIR_E_NO_MEMORY);
+        }
+        if (share.id == id && share.group_index == group && share.member_index == member) {
+            return shamir_papers_take_out(papers, at, end);
+        }
+    }
+    return shamir_answer_of(SHAMIR_DONE);
+}
+
+/* For shamir_papers_recover: marks each member that names name, and returns the length of the names. */
+SHAMIR_INLINE size_t shamir_papers_mark(const char *names, uint16_t *members)
+{
+    unsigned group = 0, number = 0;
+    size_t at;
+
+    for (at = 0;; at++) {
+        if ('0' <= names[at] && names[at] <= '9') {
+            number = 10 * number + (unsigned)(names[at] - '0');
+            continue;
+        }
+        if (names[at] == '.') {
+            group = number & 15u;
+        } else {
+            members[group] = (uint16_t)(members[group] | 1u << (number & 15u));
+        }
+        if (names[at] == '\0') {
+            return at;
+        }
+        number = 0;
+    }
+}
+
+/* For shamir_papers_recover: moves the lines of these members to the beginning of their backup, and returns the length of these lines. If
+   there is no memory, it returns (size_t)-1. */
+SHAMIR_INLINE SHAMIR_STRUCT(1) size_t shamir_papers_choose(const shamir_papers *papers, const uint16_t *members)
+{
+    const size_t start = (size_t)(papers->backup - papers->lines);
+    size_t at, end, chosen = start;
+    shamir_share share;
+
+    for (at = start; at < start + papers->backup_bytes; at = end) {
+        end = shamir_papers_read(papers, at, &share);
+        if (end == (size_t)-1) {
+            return end;
+        }
+        if (members[share.group_index] >> share.member_index & 1) {
+            chosen += shamir_papers_move(papers, at, chosen, end - at) - at;
+        }
+    }
+    return chosen - start;
+}
+
+/* Recovers the secret of the backup of the mnemonic that came last. */
+SHAMIR_INLINE SHAMIR_STRUCT(1) shamir_answer shamir_papers_recover(
+    shamir_papers *papers, const char *passphrase, uint32_t max_exponent, const char *expected, uint8_t *secret, size_t secret_bytes,
+    char *text, size_t text_bytes)
+{
+    const char *key = passphrase == NULL ? "" : passphrase, *noted = shamir_expected(expected);
+    uint16_t chosen[SHAMIR_GROUPS_MAX], right[SHAMIR_GROUPS_MAX], wrong[SHAMIR_GROUPS_MAX];
+    uint64_t mismatches = 0;
+    size_t bytes, told = 0;
+    int group, is_found = 0;
+    shamir_drilling drilling;
+    shamir_answer answer = shamir_recover(
+        papers->backup, papers->backup_bytes, key, strlen(key), max_exponent, noted, strlen(noted), secret, secret_bytes);
+
+    memset(papers->doubtful, 0, sizeof papers->doubtful);
+    if (answer.code != SHAMIR_E_DIGEST_MISMATCH) {
+        return answer;
+    }
+    memset(chosen, 0, sizeof chosen);
+    memset(right, 0, sizeof right);
+    memset(wrong, 0, sizeof wrong);
+    drilling = shamir_drill_start(papers->backup, papers->backup_bytes, key, max_exponent, NULL, text, text_bytes);
+    drilling.form = SHAMIR_FORM_FINGERPRINTS;
+    while (drilling.number < 65536 && shamir_drill_next(&drilling)) {
+        bytes = shamir_papers_mark(drilling.names, drilling.has_mismatch ? wrong : right);
+        mismatches += drilling.has_mismatch;
+        if (!drilling.has_mismatch && !is_found) {
+            is_found = shamir_papers_mark(drilling.names, chosen) > 0;
+        }
+        if (drilling.has_mismatch && told + bytes < text_bytes / 2) {
+            /* The names alone are shorter than the line that had them, so they have room before what comes after it. */
+            memcpy(text + told, drilling.names, bytes);
+            text[told + bytes] = '\n';
+            told += bytes + 1;
+        }
+        if (drilling.at == drilling.end) {
+            drilling.text = text + told;
+            drilling.text_bytes = text_bytes - told;
+            drilling.at = drilling.end = 0;
+        }
+    }
+    if (drilling.answer.code != SHAMIR_DONE) {
+        /* Half of text is for names, and the other half has to have room for the next quorum. */
+        drilling.answer.first *= 2;
+        return drilling.answer;
+    }
+    if (!is_found) {
+        return answer;
+    }
+    bytes = shamir_papers_choose(papers, chosen);
+    if (bytes == (size_t)-1) {
+        return shamir_answer_of(SHAMIR_E_NO_MEMORY);
+    }
+    answer = shamir_recover(papers->backup, bytes, key, strlen(key), max_exponent, noted, strlen(noted), secret, secret_bytes);
+    if (answer.code == SHAMIR_DONE) {
+        answer.first = mismatches;
+        answer.second = told;
+        for (group = 0; group < SHAMIR_GROUPS_MAX; group++) {
+            papers->doubtful[group] = (uint16_t)(wrong[group] & ~(unsigned)right[group]);
+        }
+    }
+    return answer;
 }
 
 #ifdef __cplusplus

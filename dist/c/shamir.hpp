@@ -1,10 +1,10 @@
 /*
  * shamir.hpp: SLIP-0039 backups of a master secret, for C++17. It is a layer over shamir.h, which says what each call does, and in
  * which order it refuses. Link with the library as a program in C does. docs/LIBRARY.md has a first call.
+ * SPDX-License-Identifier: MIT
  *
  * A text is a std::string_view (Text), and bytes are a view too (Bytes), to which arrays and vectors of std::uint8_t convert. Options
- * are structs, whose fields have the defaults of the command shamir. Their passphrase is a view, so the text of it must live until the
- * call returns. An expected fingerprint is a string of their own.
+ * are structs, whose fields have defaults, and which own what they hold. A call that takes one mnemonic takes a line feed at its end too.
  *
  * A call gives an Answer: its value, or the Refusal of the library. Secrets and mnemonics are in memory that is cleared before it is
  * freed: a Secret, or Mnemonics. So are the buffers into which the library writes them. What you copy out of them isn't. An Answer
@@ -23,7 +23,9 @@
 #include <cstdint>
 #include <iterator>
 #include <memory>
+#include <new>
 #include <optional>
+#include <set>
 #include <stdexcept>
 #include <string>
 #include <string_view>
@@ -81,6 +83,25 @@ template <class Unit> using Cleared = std::vector<Unit, Clearing<Unit>>;
 
 /* A master secret, an encrypted one, the value of a mnemonic, or random bytes. */
 using Secret = Cleared<std::uint8_t>;
+
+/* The passphrase of options: a copy of a text, in memory that is cleared before it is freed. */
+class Passphrase {
+public:
+    Passphrase() = default;
+    template <class Given, class = std::enable_if_t<std::is_convertible_v<const Given &, Text>>>
+    Passphrase(const Given &given)
+    {
+        const Text text = given;
+        text_.assign(text.begin(), text.end());
+    }
+
+    operator Text() const noexcept { return {text_.data(), text_.size()}; }
+    const char *data() const noexcept { return text_.data(); }
+    std::size_t size() const noexcept { return text_.size(); }
+
+private:
+    Cleared<char> text_;
+};
 
 /* Why the library refuses. The fields code, line, first and second are those of shamir_answer. */
 struct Refusal : shamir_answer {
@@ -175,6 +196,13 @@ namespace detail {
 
 inline std::size_t size_of(std::uint64_t size) { return static_cast<std::size_t>(size); }
 
+/* One line, without the line feed that may end it. */
+inline Text one_line(Text line)
+{
+    line.remove_suffix(!line.empty() && line.back() == '\n');
+    return line;
+}
+
 /* Returns the parts of a text. Each ends with this sign, but the last part may lack it. The header windows.h has a macro min, which
    parentheses around the name keep away. */
 inline std::vector<Text> parts(Text text, char sign)
@@ -256,7 +284,7 @@ public:
     /* Adds one line, which may end with a line feed. If there is no memory, nothing is added. */
     void add(Text line)
     {
-        line.remove_suffix(!line.empty() && line.back() == '\n');
+        line = detail::one_line(line);
         if (line.find('\n') != Text::npos) {
             throw std::invalid_argument("a line holds a line feed, so it is several lines");
         }
@@ -344,21 +372,22 @@ inline std::string to_text(const Answer<Judgement> &found)
     return found ? (found->again ? "again\n" : "") + to_text(found->status) : found.error().message() + "\n";
 }
 
-/* Set the extendable flag of a new backup, unless a wallet that has to read it may not know the flag. */
+/* The defaults are those of python-shamir-mnemonic, the reference implementation of the standard. Leave the extendable flag out if a
+   wallet that has to read the backup may not know it. */
 struct CreateOptions {
-    Text passphrase = {};
-    std::uint32_t exponent = 0;
-    bool extendable = false;
+    Passphrase passphrase = {};
+    std::uint32_t exponent = 1;
+    bool extendable = true;
 };
 
 /* If a fingerprint is expected, a secret with another one is refused (52). */
 struct DecryptOptions {
-    Text passphrase = {};
+    Passphrase passphrase = {};
     std::optional<std::string> expected = {};
 };
 
 struct RecoverOptions {
-    Text passphrase = {};
+    Passphrase passphrase = {};
     std::optional<std::string> expected = {};
     std::uint32_t max_exponent = SHAMIR_EXPONENT_MAX;
 };
@@ -369,7 +398,7 @@ struct RecoverOptions {
  * call makes the iterations anew.
  */
 struct DrillOptions {
-    Text passphrase = {};
+    Passphrase passphrase = {};
     std::optional<std::string> expected = {};
     bool fingerprints = false;
     std::uint32_t max_exponent = SHAMIR_EXPONENT_MAX;
@@ -412,6 +441,7 @@ inline Answer<std::string> version()
 
 inline Answer<Share> parse(Text line)
 {
+    line = detail::one_line(line);
     Share share;
     auto value = detail::written<std::uint8_t>(SHAMIR_SECRET_BYTES_MAX, [&](std::uint8_t *room, std::size_t size) {
         return shamir_parse(line.data(), line.size(), &share, room, size);
@@ -565,6 +595,7 @@ inline Answer<Status> status(Text lines)
 /* Judges a mnemonic beside lines of one backup or of several. If the mnemonic is refused, the refusal has no line. */
 inline Answer<Judgement> judge(Text lines, Text mnemonic)
 {
+    mnemonic = detail::one_line(mnemonic);
     shamir_judgement found;
     auto status = detail::status([&](char *room, std::size_t size) {
         return shamir_judge(lines.data(), lines.size(), mnemonic.data(), mnemonic.size(), &found, room, size);
@@ -648,88 +679,11 @@ Answer<Mnemonics> create_from_encrypted(Text plan, const EncryptedSecret &secret
 /* Gives the mnemonics that fit a line with ? for what can't be read: one or two. */
 inline Answer<Mnemonics> repair(Text line)
 {
+    line = detail::one_line(line);
     return detail::mnemonics(SHAMIR_REPAIRED_BYTES_MAX, [&](char *room, std::size_t size) {
         return shamir_repair(line.data(), line.size(), room, size);
     });
 }
-
-/* Mnemonics as they come, one after the other, of one backup or of several. The library decides about each. */
-class Papers {
-public:
-    Papers() = default;
-    Papers(const Papers &) = default;
-    /* The other one has no papers then. */
-    Papers(Papers &&other) noexcept { swap(other); }
-    /* If there is no memory for a copy, nothing changes. */
-    Papers &operator=(Papers other) noexcept { return swap(other), *this; }
-
-    /* Judges a mnemonic beside all that are here, and keeps it unless it is here already, in lower-case words with single spaces. If it
-       is refused, nothing is kept. */
-    Answer<Judgement> add(Text mnemonic)
-    {
-        auto found = judge(all_, mnemonic);
-        if (found && !found->again) {
-            const auto respelled = repair(mnemonic);
-            if (!respelled) {
-                return respelled.error();
-            }
-            of_.reserve(of_.size() + 1);
-            all_.add(respelled->lines()[0]);
-            of_.push_back(found->share.id);
-        }
-        if (found) {
-            last_ = found->share.id;
-            enough_ = found->status.enough();
-        }
-        return found;
-    }
-
-    /* Whether the backup of the mnemonic that came last has enough for a recovery. A mnemonic that is refused changes nothing. */
-    bool enough() const noexcept { return enough_; }
-
-    /* Recovers the secret from the mnemonics of that backup. */
-    Answer<Secret> recover(const RecoverOptions &options = {}) const { return shamir::recover(lines(last_), options); }
-
-    /* The identifiers of the backups, in the order in which they came. */
-    std::vector<std::uint16_t> ids() const
-    {
-        std::vector<std::uint16_t> found;
-        for (const std::uint16_t id : of_) {
-            if (std::find(found.begin(), found.end(), id) == found.end()) {
-                found.push_back(id);
-            }
-        }
-        return found;
-    }
-
-    /* The mnemonics of the backup with an identifier, in the order in which they came. */
-    Mnemonics lines(std::uint16_t id) const
-    {
-        Mnemonics found;
-        const auto all = all_.lines();
-        for (std::size_t i = 0; i < all.size(); i++) {
-            if (of_[i] == id) {
-                found.add(all[i]);
-            }
-        }
-        return found;
-    }
-
-private:
-    void swap(Papers &other) noexcept
-    {
-        std::swap(all_, other.all_);
-        std::swap(of_, other.of_);
-        std::swap(last_, other.last_);
-        std::swap(enough_, other.enough_);
-    }
-
-    Mnemonics all_;
-    /* The identifier of each line. */
-    std::vector<std::uint16_t> of_;
-    std::uint16_t last_ = 0;
-    bool enough_ = false;
-};
 
 inline Answer<std::string> fingerprint(Bytes secret)
 {
@@ -828,6 +782,174 @@ template <class Each> Answer<Drilled> drill(Text lines, const DrillOptions &opti
         }
     }
 }
+
+namespace detail {
+
+/* The names that are in some of the first quorums, and in none of the others, in ascending order. */
+inline Names only_in(const std::vector<Names> &some, const std::vector<Names> &others)
+{
+    std::set<Name> found;
+    for (const Names &names : some) {
+        found.insert(names.begin(), names.end());
+    }
+    for (const Names &names : others) {
+        for (const Name &name : names) {
+            found.erase(name);
+        }
+    }
+    return Names(found.begin(), found.end());
+}
+
+} // namespace detail
+
+/*
+ * What papers recover. If the first quorum is right, nothing else is tried. Otherwise these quorums failed: a digest doesn't match. The
+ * doubtful papers are in a quorum that failed, and in none that is right: the wrong ones are among them.
+ */
+struct Recovered {
+    Secret secret;
+    std::vector<Names> failed;
+    Names doubtful;
+};
+
+/* Mnemonics as they come, one after the other, of one backup or of several. The library decides about each. */
+class Papers {
+public:
+    Papers() = default;
+    Papers(const Papers &) = default;
+    /* The other one has no papers then. */
+    Papers(Papers &&other) noexcept { swap(other); }
+    /* If there is no memory for a copy, nothing changes. */
+    Papers &operator=(Papers other) noexcept { return swap(other), *this; }
+
+    /* Judges a mnemonic beside all that are here, and keeps it unless it is here already, in lower-case words with single spaces. If it
+       is refused, nothing is kept. */
+    Answer<Judgement> add(Text mnemonic)
+    {
+        auto found = judge(all_, mnemonic);
+        if (found && !found->again) {
+            const auto respelled = repair(mnemonic);
+            if (!respelled) {
+                return respelled.error();
+            }
+            of_.reserve(of_.size() + 1);
+            all_.add(respelled->lines()[0]);
+            of_.push_back({found->share.id, found->name()});
+        }
+        if (found) {
+            last_ = found->share.id;
+            enough_ = found->status.enough();
+        }
+        return found;
+    }
+
+    /* Takes out the mnemonic with this name in the backup with an identifier, clears it, and returns whether it was here. So a forged one
+       can make room for the right one, which is refused with 28 beside it. If there is no memory, nothing changes. */
+    bool remove(std::uint16_t id, Name name)
+    {
+        Papers left = kept([&](const Paper &paper) { return paper.id != id || paper.name != name; });
+        const auto counted = quorums(left.lines(last_));
+        if (!counted && counted.error().code == SHAMIR_E_NO_MEMORY) {
+            throw std::bad_alloc();
+        }
+        left.last_ = last_;
+        left.enough_ = counted && *counted > 0;
+        const bool is_found = left.of_.size() < of_.size();
+        swap(left);
+        return is_found;
+    }
+
+    /* Whether the backup of the mnemonic that came last has enough for a recovery. A mnemonic that is refused changes nothing. */
+    bool enough() const noexcept { return enough_; }
+
+    /* Recovers the secret from the mnemonics of that backup: from the first quorum, or, if a digest of it doesn't match, from the first
+       whose digests match. Then it tries all quorums, but at most 65,536. If none matches, the refusal is that of the first (51). */
+    Answer<Recovered> recover(const RecoverOptions &options = {}) const
+    {
+        const Mnemonics all = lines(last_);
+        auto first = shamir::recover(all, options);
+        if (first) {
+            return Recovered{*std::move(first), {}, {}};
+        }
+        if (first.error().code != SHAMIR_E_DIGEST_MISMATCH) {
+            return first.error();
+        }
+        DrillOptions drilled;
+        drilled.passphrase = options.passphrase;
+        drilled.fingerprints = true;
+        drilled.max_exponent = options.max_exponent;
+        drilled.at_once = UINT32_MAX;
+        std::vector<Names> failed, right;
+        const auto tried = drill(all, drilled, [&](const Outcome &outcome, const Progress &progress) {
+            (outcome.mismatch ? failed : right).push_back(outcome.names);
+            return progress.listed < 65536;
+        });
+        if (!tried || right.empty()) {
+            return tried ? first.error() : tried.error();
+        }
+        const Names &names = right[0];
+        const Papers chosen = kept([&](const Paper &paper) {
+            return paper.id == last_ && std::find(names.begin(), names.end(), paper.name) != names.end();
+        });
+        auto secret = shamir::recover(chosen.all_, options);
+        if (!secret) {
+            return secret.error();
+        }
+        return Recovered{*std::move(secret), failed, detail::only_in(failed, right)};
+    }
+
+    /* The identifiers of the backups, in the order in which they came. */
+    std::vector<std::uint16_t> ids() const
+    {
+        std::vector<std::uint16_t> found;
+        for (const Paper &paper : of_) {
+            if (std::find(found.begin(), found.end(), paper.id) == found.end()) {
+                found.push_back(paper.id);
+            }
+        }
+        return found;
+    }
+
+    /* The mnemonics of the backup with an identifier, in the order in which they came. */
+    Mnemonics lines(std::uint16_t id) const
+    {
+        return kept([&](const Paper &paper) { return paper.id == id; }).all_;
+    }
+
+private:
+    struct Paper {
+        std::uint16_t id;
+        Name name;
+    };
+
+    /* The papers for which a condition holds. */
+    template <class Holds> Papers kept(const Holds &holds) const
+    {
+        Papers found;
+        const auto all = all_.lines();
+        for (std::size_t i = 0; i < all.size(); i++) {
+            if (holds(of_[i])) {
+                found.all_.add(all[i]);
+                found.of_.push_back(of_[i]);
+            }
+        }
+        return found;
+    }
+
+    void swap(Papers &other) noexcept
+    {
+        std::swap(all_, other.all_);
+        std::swap(of_, other.of_);
+        std::swap(last_, other.last_);
+        std::swap(enough_, other.enough_);
+    }
+
+    Mnemonics all_;
+    /* Which paper each line is. */
+    std::vector<Paper> of_;
+    std::uint16_t last_ = 0;
+    bool enough_ = false;
+};
 
 } // namespace shamir
 

@@ -5,6 +5,8 @@
  *     cc -O2 test.c shamir.c && ./a.out
  *
  * It prints each difference, and its exit status is 1 if there is any.
+ *
+ * SPDX-License-Identifier: MIT
  */
 #include <stdio.h>
 #include <string.h>
