@@ -573,7 +573,7 @@ export const TEXTS = {
   "change.same": "Each quorum of the old papers that was tried gives the same secret, so old and new agree.",
   "change.bare.noted": "Don't note this fingerprint: it isn't that of your secret if there is a passphrase.",
   "change.noted.first": "Don't note this fingerprint yet. If a wallet that you restored from the new papers, with the same passphrase, shows your addresses, the secret is yours: then note the fingerprint.",
-  "change.unnoted": "Nothing was compared with a fingerprint that you noted. If the passphrase isn't right, the new papers are of another wallet. Keep the old papers until a wallet that you restored from the new ones shows your addresses.",
+  "change.unnoted": "Nothing was compared with a fingerprint that you noted. If the passphrase isn't right, the new papers are of another wallet.",
   "change.old.title": "The old papers",
   "change.new.title": "The new papers",
   "change.old": "The old papers still work until they are destroyed. Old and new papers give the same wallets, with every passphrase. If the restored wallet has shown the right address, and the new papers are in their places, destroy the old ones, also those that others keep for you.",
