@@ -43,9 +43,10 @@ let arrived = null;
 let seen = NOTHING_SEEN;
 
 /**
- * The letters since the last key that ends a word, the fields whose words they completed, and the last of these words.
+ * The letters since the last key that ends a word, the fields whose words they completed, and these words. A field may be empty by then, as its
+ * paper was taken.
  *
- * @typedef {{letters: string, fields: WordField[], word: string}} Run
+ * @typedef {{letters: string, fields: WordField[], words: string[]}} Run
  */
 
 /** @type {Run | null} */
@@ -261,13 +262,14 @@ export class WordField {
    */
   #isMistyped(letters) {
     if (run === null) return false;
-    const { fields, word } = run;
+    const { fields, words } = run;
+    const word = /** @type {string} */ (words.at(-1));
     // From the last field, the focus has nowhere to go.
     const isOwn = arrived !== this && fields.at(-1) === this && letters.startsWith(word);
     if (arrived !== this && !isOwn) return false;
     const tail = isOwn ? letters.slice(word.length) : letters;
     const typed = run.letters + tail;
-    if (!isTail(this.#list, tail, rest, typed, [...fields.slice(0, -1).map((field) => field.word), word])) return false;
+    if (!isTail(this.#list, tail, rest, typed, words)) return false;
     forgetRest();
     if (isOwn) this.set(word);
     else this.#restore();
@@ -356,7 +358,7 @@ export class WordField {
     while (!letters.endsWith(word.slice(0, count))) count -= 1;
     if (isBySpelling && arrived === this && rest.letters !== "") seen = seenWith(seen, letters.length - count, rest);
     const on = arrived === this && this.#before.word === "" ? run : null;
-    run = isBySpelling ? { letters: (on?.letters ?? "") + letters, fields: [...(on?.fields ?? []), this], word } : null;
+    run = isBySpelling ? { letters: (on?.letters ?? "") + letters, fields: [...(on?.fields ?? []), this], words: [...(on?.words ?? []), word] } : null;
     arrived = null;
     rest = isBySpelling ? { letters: word.slice(count), toFour: Math.max(0, 4 - count) } : NO_REST;
     this.#events.completed(this.#at, isBySpelling);

@@ -121,6 +121,19 @@ def check_after_button(page, _):
     clear(page, say("clear.replaced"))
 
 
+def check_last_word(page, _):
+    """What comes after the first letters of a paper's last word, and is its rest, mistyped, changes no field of the next paper."""
+    typed = "[...document.querySelectorAll('.word input')].map((it) => it.value).join(' ').trim()"
+    for rest in ("zter", "tre", "te"):
+        begin(page, "check")
+        line = changed(SOUND_PAPER, value=bytes([11] * 16))
+        page.type(line.removesuffix("ter"))
+        page.wait_text(say("collect.taken", name="0.0"))
+        page.type(rest + " acid academic ")
+        page.wait(lambda: page.evaluate(typed) == "acid academic", f"the first words of the next paper, after a last word that ends with {rest!r}")
+        clear(page)
+
+
 def check_offers(page, see):
     """What is said of a wrong word covers no word that is offered in place of another one, when Shift and Tab lead there."""
     page.size(1280, 720)
@@ -506,4 +519,4 @@ def check_known_count(page, see):
     clear(page, say("clear.repaired"))
 
 
-CHECKS = [check_unread, check_keys, check_next_screen, check_once, check_after_button, check_offers, check_habits, check_guessed, check_mistyped, check_typo, check_moves, check_beyond, check_bip39, check_pasted, check_kept, check_open, check_damaged, check_known_count]
+CHECKS = [check_unread, check_keys, check_next_screen, check_last_word, check_once, check_after_button, check_offers, check_habits, check_guessed, check_mistyped, check_typo, check_moves, check_beyond, check_bip39, check_pasted, check_kept, check_open, check_damaged, check_known_count]

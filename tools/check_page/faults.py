@@ -176,6 +176,7 @@ FAULTS = [
     ("the button that ends covers what is to be done", "page/style.css", ":is(.paper, .verdict) ~ .go", ".paper ~ .go", of_page(lambda page: change.check_renewed(page, unseen))),
     ("what is said of a wrong word covers a field", "page/style.css", "scroll-margin-top: var(--said);", "", of_page(lambda page: choices.check_low(page, unseen))),
     ("a question mark is taken for the end of a word", "page/spelling.js", 'letters.includes("?") || ', "", of_page(lambda page: entry.check_open(page, unseen))),
+    ("what follows a paper's last word comes into the next paper", "page/word_field.js", "rest, typed, words)) return false;", "rest, typed, fields.map((it) => it.word))) return false;", of_page(lambda page: entry.check_last_word(page, unseen))),
     ("the rest of a word comes into the next screen", "page/show_paper.js", "isTaken: !isSame,", "isTaken: true,", of_page(lambda page: entry.check_next_screen(page, unseen))),
     ("a key after the last word ends a word of the next screen", "page/paper_entry.js", "this.#fields[0].begin();", "this.#fields[0].focus();", of_page(lambda page: entry.check_next_screen(page, unseen))),
     ("a paper is told once more on a later screen", "page/show_paper.js", "isDone = true;", "", of_page(lambda page: entry.check_once(page, unseen))),
