@@ -1,7 +1,6 @@
 """The program as plain C: builds of it, what they are compared with, and its heap."""
 import dataclasses
 import functools
-import pathlib
 from typing import Callable, List, Optional
 
 import builds
@@ -24,9 +23,13 @@ TOOLS = ["texts", "values", "terminal", "faults --allocations"]
 
 
 def built(target: Target, folder: str) -> List[str]:
-    """Builds the program without a warning, and returns the words that run it. It says its name, which has to be shamir."""
-    path = pathlib.Path(folder, "shamir.exe" if "mingw" in target.compiler else "shamir")
-    run([target.compiler, "-std=c99", "-pedantic", *builds.STRICT, "-Wno-overlength-strings", *target.words, str(builds.DIST / "program.c"), "-o", str(path)])
+    """Builds the program without a warning, once for each target, and returns the words that run it. It says its name, which has to be
+    shamir."""
+    path = builds.OBJECTS / target.name.replace(" ", "-") / ("shamir.exe" if "mingw" in target.compiler else "shamir")
+    with builds.LOCKS[("program", target.name)]:
+        if not path.exists():
+            path.parent.mkdir()
+            run([target.compiler, "-std=c99", "-pedantic", *builds.STRICT, "-Wno-overlength-strings", *target.words, str(builds.DIST / "program.c"), "-o", str(path)])
     return builds.words_of(target, str(path), folder)
 
 
