@@ -13,8 +13,8 @@ It also adds up the frames of the functions that a call reaches, as objdump show
 given. The tool needs a C compiler for x86-64 and objdump. It says what it doesn't check without them.
 
 Of the program, it runs each command: with good ends, with each kind of refusal, with devices that fail, with values in files and in
-lines of the input, at a terminal, and if memory runs out. It stops the program when it is about to end, and searches all memory that
-it can write for the same as above. It also checks that on the stack all is 0 below the frames of `main`. With too small a stack, a
+lines of the input, at a terminal, if memory runs out, and if a read of a file fails after bytes of it came. It stops the program when it
+is about to end, and searches all memory that it can write for the same as above. It also checks that on the stack all is 0 below the frames of `main`. With too small a stack, a
 signal must end the program before it has read anything secret or written anything. For this it needs the right to trace a program,
 and for a lack of memory a C compiler, as tools/faults.c refuses the allocations.
 

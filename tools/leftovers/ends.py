@@ -14,7 +14,9 @@ REFUSAL = re.compile(rb"^shamir: (?:line \d+: )?(\d\d) ", re.MULTILINE)
 # Below the words of the command, this many bytes of the stack may be other than 0: the frames of `main` and of those that call
 # it, and what ends the process.
 FRAMES = 1024
-OUT_OF_MEMORY = 4
+OUT_OF_MEMORY, READ_FAILED = 4, 3
+# Of the reads of a file, so many fail, each in a run of its own.
+FAILED_READS = 5
 # A line of what tools/faults.c logs.
 CALL = re.compile(rb"^(allocation|file|read) \d+ -?\d+$", re.MULTILINE)
 
@@ -68,11 +70,19 @@ def refused_allocations(program: str, shim: str, run: commands.Run) -> Iterator[
         yield replace(with_variables(run, LD_PRELOAD=shim, FAULT_ALLOCATION=str(number)), status=OUT_OF_MEMORY)
 
 
-def without_memory(program: str, shim: str, runs: List[commands.Run]) -> Iterator[commands.Run]:
-    """Yields what the first sound run does of each command, with each kind of devices, if memory runs out."""
+def failed_reads(program: str, shim: str, run: commands.Run) -> Iterator[commands.Run]:
+    """Yields runs like this one: in each, another read of a file fails, after bytes of it came."""
+    count = CALL.findall(ended(program, with_variables(run, LD_PRELOAD=shim)).errors).count(b"file")
+    for number in range(2, count + 1, -(-count // FAILED_READS)):
+        yield replace(with_variables(run, LD_PRELOAD=shim, FAULT_FILE=str(number)), status=READ_FAILED)
+
+
+def with_faults(program: str, shim: str, runs: List[commands.Run]) -> Iterator[commands.Run]:
+    """Yields what the first sound run does of each command, with each kind of devices, if memory runs out, or if a read of a file fails."""
     firsts = {(run.words[0], run.has_files, run.how.told): run for run in reversed(runs) if run.is_sound}
     for run in firsts.values():
         yield from refused_allocations(program, shim, run)
+        yield from failed_reads(program, shim, run) if run.has_files else ()
 
 
 SEARCHES: List[Search] = []
@@ -96,7 +106,7 @@ def all_leftovers(program: pathlib.Path, shim: str) -> Tuple[List[str], int, int
     for backup, runs in commands.all_runs():
         search = Search(str(program.resolve()), backups.Needles(backup))
         if shim:
-            runs += without_memory(search.program, shim, runs)
+            runs += with_faults(search.program, shim, runs)
         # Each process traces its own runs, since only the thread that started a program may trace it.
         with workers(initializer=begin, initargs=(search,)) as pool:
             for found, lowest in pool.map(searched, runs, chunksize=4):
