@@ -81,7 +81,7 @@ export class Engine {
      * many for a secret of more than 64 bytes. If the mnemonics have a quorum, an exponent above `maxExponent` is refused before
      * any iteration (3).
      *
-     * Throws a `Refusal` with one of the codes 3, 11 to 30, 41, 44, 51, 52 or 71.
+     * Throws a `Refusal` with one of the codes 3, 11 to 15, 21 to 30, 41, 44, 51, 52 or 71.
      * @param {Lines} lines
      * @param {RecoverOptions} [options]
      * @returns {Uint8Array}
@@ -96,7 +96,7 @@ export class Engine {
      * `lines` is as for `recover`, which gives what `decrypt` gives of the result. The call needs no passphrase, and makes no
      * iterations. So a program can keep the encrypted secret in place of the mnemonics, and ask for the passphrase each time.
      *
-     * Throws a `Refusal` with one of the codes 11 to 30, 51 or 71.
+     * Throws a `Refusal` with one of the codes 11 to 15, 21 to 30, 51 or 71.
      * @param {Lines} lines
      * @returns {EncryptedSecret}
      */
@@ -156,7 +156,7 @@ export class Engine {
      * The arguments are copied at once. The copies are cleared when the iterator ends or its `return` is called; a `for` loop
      * that is left early calls it. The engine gets the arguments at the first `next`, which then throws any refusal.
      *
-     * Throws a `Refusal` with one of the codes 3, 11 to 30, 41, 44, 61, 62 or 71.
+     * Throws a `Refusal` with one of the codes 3, 11 to 15, 21 to 30, 41, 44, 61, 62 or 71.
      * @param {Lines} lines
      * @param {DrillOptions} [options]
      * @returns {Generator<Outcome, void, void>}
@@ -170,7 +170,7 @@ export class Engine {
      * `lines` is as for `recover`. A repeated mnemonic counts once. The call needs no passphrase, and decrypts nothing. If the
      * mnemonics have no quorum, the call throws no `Refusal` for that.
      *
-     * Throws a `Refusal` with one of the codes 11 to 29 or 71.
+     * Throws a `Refusal` with one of the codes 11 to 15, 21 to 29 or 71.
      * @param {Lines} lines
      * @returns {Status}
      */
@@ -199,7 +199,7 @@ export class Engine {
      * `lines` is as for `recover`. A repeated mnemonic counts once. The call needs no passphrase, and decrypts nothing. The number
      * is that of the outcomes of `drill` without `after`. If the mnemonics have no quorum, it is 0.
      *
-     * Throws a `Refusal` with one of the codes 11 to 29 or 71.
+     * Throws a `Refusal` with one of the codes 11 to 15, 21 to 29 or 71.
      * @param {Lines} lines
      * @returns {bigint}
      */
@@ -216,7 +216,7 @@ export class Engine {
      * This call is for mnemonics that were destroyed. If somebody else may have a lost mnemonic, create a new backup. If that
      * person may have a quorum, use a new secret too.
      *
-     * Throws a `Refusal` with one of the codes 11 to 29, 31 to 34, 51, 63 to 66 or 71.
+     * Throws a `Refusal` with one of the codes 11 to 15, 21 to 29, 31 to 34, 51, 63 to 66 or 71.
      * @param {Text} plan
      * @param {Text} names
      * @param {Lines} lines
@@ -247,7 +247,7 @@ export class Engine {
      * The old mnemonics go on giving the secret until they are destroyed. If somebody may have a quorum of them, use a new secret
      * too.
      *
-     * Throws a `Refusal` with one of the codes 11 to 34, 43, 51, 67, 68 or 71.
+     * Throws a `Refusal` with one of the codes 11 to 15, 21 to 34, 43, 51, 67, 68 or 71.
      * @param {Text} plan
      * @param {Lines} lines
      * @param {ResplitOptions} [options]

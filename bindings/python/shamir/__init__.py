@@ -760,7 +760,7 @@ def recover(
     twice as many for a secret of more than 64 bytes. With the exponent 15 these take minutes. If the mnemonics have a
     quorum, an exponent above `max_exponent` is refused before any iteration (3).
 
-    Raises `Refusal` with one of the codes 3, 11 to 30, 41, 44, 51, 52 or 71.
+    Raises `Refusal` with one of the codes 3, 11 to 15, 21 to 30, 41, 44, 51, 52 or 71.
     """
     options = _slice(_bytes(passphrase, "passphrase")) + (_number(max_exponent, ctypes.c_uint32, "max_exponent"),) + _slice(_expected(expect))
     given = _slice(_joined(lines)) + options
@@ -777,7 +777,7 @@ def encrypted(lines: Lines) -> EncryptedSecret:
     `lines` is as for `recover`, which gives what `decrypt` gives of the result. The call needs no passphrase, and makes no
     iterations. So a program can keep the encrypted secret in place of the mnemonics, and ask for the passphrase each time.
 
-    Raises `Refusal` with one of the codes 11 to 30, 51 or 71.
+    Raises `Refusal` with one of the codes 11 to 15, 21 to 30, 51 or 71.
     """
     given, found = _slice(_joined(lines)), _Parameters()
     value = _filled(lambda out, room: _library.shamir_encrypted(*given, ctypes.byref(found), out, room), SECRET_BYTES_MAX)
@@ -926,7 +926,7 @@ def drill(
     A digest mismatch is no refusal here. The generator looks at its arguments only at the first `next`, which then
     raises any refusal. Only 4 (no memory, as plain C) can come later.
 
-    Raises `Refusal` with one of the codes 3, 11 to 30, 41, 44, 61, 62 or 71.
+    Raises `Refusal` with one of the codes 3, 11 to 15, 21 to 30, 41, 44, 61, 62 or 71.
     """
     data, key = _joined(lines), _bytes(passphrase, "passphrase")
     form = _form(fingerprints, expect)
@@ -998,7 +998,7 @@ def status(lines: Lines) -> Status:
     `lines` is as for `recover`. A repeated mnemonic counts once. The call needs no passphrase, and decrypts nothing. If
     the mnemonics have no quorum, the call raises no `Refusal` for that.
 
-    Raises `Refusal` with one of the codes 11 to 29 or 71.
+    Raises `Refusal` with one of the codes 11 to 15, 21 to 29 or 71.
     """
     given = _slice(_joined(lines))
     return _status(_filled(lambda out, room: _library.shamir_status(*given, out, room), _STATUS_BYTES_MAX))
@@ -1203,7 +1203,7 @@ def quorums(lines: Lines) -> int:
     `lines` is as for `recover`. A repeated mnemonic counts once. The call needs no passphrase, and decrypts nothing. The
     number is that of the outcomes of `drill` without `after`. If the mnemonics have no quorum, it is 0.
 
-    Raises `Refusal` with one of the codes 11 to 29 or 71.
+    Raises `Refusal` with one of the codes 11 to 15, 21 to 29 or 71.
     """
     return _checked(_library.shamir_quorums(*_slice(_joined(lines)))).first
 
@@ -1222,7 +1222,7 @@ def reissue(plan: Text, names: Text, lines: Lines) -> List[str]:
     This call is for mnemonics that were destroyed. If somebody else may have a lost mnemonic, create a new backup. If
     that person may have a quorum, use a new secret too.
 
-    Raises `Refusal` with one of the codes 11 to 29, 31 to 34, 51, 63 to 66 or 71.
+    Raises `Refusal` with one of the codes 11 to 15, 21 to 29, 31 to 34, 51, 63 to 66 or 71.
     """
     given = _slice(_bytes(plan, "plan")) + _slice(_bytes(names, "names")) + _slice(_joined(lines))
     return _filled(lambda out, room: _library.shamir_reissue(*given, out, room), _MNEMONICS_BYTES_MAX).decode().splitlines()
@@ -1246,7 +1246,7 @@ def resplit(plan: Text, lines: Lines, *, random: Optional[Data] = None) -> List[
     The old mnemonics go on giving the secret until they are destroyed. If somebody may have a quorum of them, use a new secret
     too.
 
-    Raises `Refusal` with one of the codes 11 to 34, 43, 51, 67, 68 or 71.
+    Raises `Refusal` with one of the codes 11 to 15, 21 to 34, 43, 51, 67, 68 or 71.
     """
     return _split(_library.shamir_resplit, _slice(_bytes(plan, "plan")) + _slice(_joined(lines)), random)
 

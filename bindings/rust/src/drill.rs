@@ -155,8 +155,8 @@ impl AsRef<[u8]> for Names {
 /// mismatch is an outcome, and no error. After an error the drill ends.
 ///
 /// The first call of `next` gives any error, except that each part can give [`Error::NoMemory`]. It is the first of these that
-/// applies: [`Error::BadCursor`], [`Error::BadFingerprint`], [`Error::Passphrase`], that of the first refused line,
-/// [`Error::NoShares`], [`Error::Incomplete`], [`Error::HighExponent`], [`Error::NotAQuorum`].
+/// applies: [`Error::BadCursor`], [`Error::BadFingerprint`], [`Error::Passphrase`], that of the first refused line (with
+/// the codes 11 to 15, 21 to 28 and 71), [`Error::NoShares`], [`Error::Incomplete`], [`Error::HighExponent`], [`Error::NotAQuorum`].
 ///
 /// The library computes the outcomes in parts. Each part has as many as fit into 64 KiB of text. This text is cleared when the
 /// next part comes, and when the drill is dropped.

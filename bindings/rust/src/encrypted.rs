@@ -45,7 +45,7 @@ impl EncryptedSecret {
 /// `lines` is as for [`recover`](crate::recover()), which gives what [`decrypt`] gives of the result. The call needs no passphrase, and
 /// makes no iterations. So a program can keep the encrypted secret in place of the mnemonics, and ask for the passphrase each time.
 ///
-/// Gives the error of the first refused line (with the codes 11 to 28 and 71), or else the first of these that applies:
+/// Gives the error of the first refused line (with the codes 11 to 15, 21 to 28 and 71), or else the first of these that applies:
 /// [`Error::NoShares`], [`Error::Incomplete`], [`Error::DigestMismatch`].
 ///
 /// ```

@@ -6,8 +6,8 @@ use crate::{Error, ffi};
 /// `lines` is as for [`recover`](crate::recover()). The call needs no passphrase, and decrypts nothing. A repeated mnemonic counts
 /// once. Mnemonics without a quorum are no error: they have 0. A drill of these lines, from its start on, gives as many outcomes.
 ///
-/// Gives the error of the first refused line (with the codes 11 to 28 and 71), or else [`Error::NoShares`] if no line holds a
-/// mnemonic.
+/// Gives the error of the first refused line (with the codes 11 to 15, 21 to 28 and 71), or else [`Error::NoShares`] if no
+/// line holds a mnemonic.
 ///
 /// ```
 /// use shamir::{Error, quorums};

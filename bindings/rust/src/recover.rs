@@ -114,7 +114,7 @@ impl fmt::Debug for RecoverOptions<'_> {
 ///
 /// Gives the first of these errors that applies: [`Error::BadFingerprint`], [`Error::Passphrase`], that of the first refused line,
 /// [`Error::NoShares`], [`Error::Incomplete`], [`Error::HighExponent`], [`Error::DigestMismatch`], [`Error::OtherSecret`]. The errors
-/// of a line are those with the codes 11 to 28 and 71.
+/// of a line are those with the codes 11 to 15, 21 to 28 and 71.
 ///
 /// ```
 /// use shamir::{Error, RecoverOptions, fingerprint, recover};

@@ -40,8 +40,8 @@ pub fn reissue_into<'room>(
 /// may have a quorum, use a new secret too.
 ///
 /// Gives the first of these errors that applies: [`Error::BadNames`], [`Error::NotInPlan`], that of the first refused line (with
-/// the codes 11 to 28 and 71), [`Error::NoShares`], [`Error::OtherPlan`], then for each name in turn [`Error::Undetermined`] or
-/// [`Error::DigestMismatch`].
+/// the codes 11 to 15, 21 to 28 and 71), [`Error::NoShares`], [`Error::OtherPlan`], then for each name in turn
+/// [`Error::Undetermined`] or [`Error::DigestMismatch`].
 ///
 /// ```
 /// use shamir::{Mnemonics, Plan, reissue};

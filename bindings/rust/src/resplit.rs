@@ -61,9 +61,9 @@ mod in_heap {
     /// The old mnemonics go on giving the secret until they are destroyed. If somebody may have a quorum of them, use a new secret
     /// too.
     ///
-    /// Gives the first of these errors that applies: that of the first refused line (with the codes 11 to 28 and 71),
-    /// [`Error::NoShares`], [`Error::Incomplete`], [`Error::DigestMismatch`], [`Error::NotExtendable`], [`Error::RandomLength`],
-    /// [`Error::SameIdentifier`].
+    /// Gives the first of these errors that applies: that of the first refused line (with the codes 11 to 15, 21 to 28
+    /// and 71), [`Error::NoShares`], [`Error::Incomplete`], [`Error::DigestMismatch`], [`Error::NotExtendable`],
+    /// [`Error::RandomLength`], [`Error::SameIdentifier`].
     ///
     /// ```
     /// use shamir::{CreateOptions, Mnemonics, Plan, RecoverOptions, Secret, create, recover, resplit};

@@ -176,8 +176,8 @@ impl fmt::Debug for Members<'_> {
 /// `lines` is as for [`recover`](crate::recover()). The call needs no passphrase, and decrypts nothing. A repeated mnemonic counts
 /// once. Mnemonics without a quorum are no error.
 ///
-/// Gives the error of the first refused line (with the codes 11 to 28 and 71), or else [`Error::NoShares`] if no line holds a
-/// mnemonic.
+/// Gives the error of the first refused line (with the codes 11 to 15, 21 to 28 and 71), or else [`Error::NoShares`] if no
+/// line holds a mnemonic.
 ///
 /// ```
 /// use shamir::{Error, status};
