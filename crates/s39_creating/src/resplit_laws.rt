@@ -65,7 +65,7 @@ pub fn one_resplit_output()
     every_share_has_a_printed_form();
 }
 
-/// With whatever passphrase, `resplit` writes what `create` writes by this plan, for these random bytes, from the secret that
+/// With every printable passphrase, `resplit` writes what `create` writes by this plan, for these random bytes, from the secret that
 /// the least quorum of the lines recovers with it, with the exponent and the flag of their shares.
 pub fn resplit_writes_what_create_writes()
     ensures { (group_threshold : ℕ) (groups : List Members) (random : List ℕ) (input : Input)

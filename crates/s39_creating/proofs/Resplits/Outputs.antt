@@ -190,7 +190,7 @@ pub split_of : InputsAreReadOnce → (group_threshold : ℕ) (groups : List Memb
 split_of one_set group_threshold groups random input set result read from =
     then_next (IsReadAs input) (λ stop. Err (fault_of_stop stop)) (IsSplitOf group_threshold groups random) (one_set input) set read result from
 
--- a text of `create`, with whatever passphrase
+-- a text of `create`, with every printable passphrase
 pub create_writes : SplitsAreCreations → InputsAreReadOnce → AcceptedAreShareSets → (group_threshold : ℕ) (groups : List Members) (random : List ℕ)
     (input : Input) (text : List ℕ) (set : List ShareFields) (names : Names) (passphrase secret : List ℕ)
     → IsResplitOutput group_threshold groups random input text (Ok tt) → IsReadAs input (Ok set) → IsLeastQuorum set names
