@@ -4,4 +4,3 @@ pub mod ProgramGroups
 pub mod Remainders
 pub mod Texts
 pub mod Written
-pub mod WrittenBytes

@@ -3,8 +3,8 @@ ghost use Rattle.std.specs.Prelude.{◌≡◌, ◌+◌, ◌*◌, ◌/◌, ◌%�
 ghost use Rattle.bech32.specs.Groups.{IsGroup, groups};
 ghost use Rattle.bech32.specs.Segwit.{letter, bech32, final_register, address};
 
+use crate::bit_writer::{BitWriter, MAX_DIGITS};
 use crate::checksum::checksum;
-use crate::group_writer::{GroupWriter, MAX_GROUPS};
 use arrayvec::ArrayVec;
 
 /// The most characters of an address.
@@ -34,16 +34,16 @@ pub(crate) fn final_register(version: u8) -> u32
 }
 
 /// Returns the bits of the bytes in groups of five.
-fn groups(program: &[u8]) -> ArrayVec<u8, MAX_GROUPS>
+fn groups(program: &[u8]) -> ArrayVec<u8, MAX_DIGITS>
     requires { length program.now ≤ 40 }
     ensures { result.items ≡ groups program.now }
 {
-    let mut writer = GroupWriter::new();
+    let mut writer: BitWriter<5> = BitWriter::new();
     for byte in program {
         writer.write(*byte, 8);
     }
     writer.write(0, (5 - 8 * program.len() % 5) % 5);
-    writer.into_groups()
+    writer.into_digits()
 }
 
 /// Returns the text of values.

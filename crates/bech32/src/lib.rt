@@ -2,9 +2,8 @@
 #![tactic(auto)]
 
 mod address;
-mod byte_writer;
+mod bit_writer;
 mod checksum;
-mod group_writer;
 pub mod laws;
 mod reading;
 

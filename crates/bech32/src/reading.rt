@@ -7,7 +7,7 @@ ghost use Rattle.bech32.specs.Segwit.{group_of};
 ghost use Rattle.bech32.specs.Reading.{has_one_case, has_prefix, bytes_of, letters_behind, first_bad_letter, version_of, groups_behind, program_groups, program_refusal, groups_refusal, letters_refusal, refusal_of};
 
 use crate::address::{LETTERS, MAX_ADDRESS, final_register};
-use crate::byte_writer::{ByteWriter, MAX_BYTES};
+use crate::bit_writer::{BitWriter, MAX_DIGITS};
 use crate::checksum::polymod;
 use arrayvec::ArrayVec;
 
@@ -15,7 +15,7 @@ use arrayvec::ArrayVec;
 #[derive(Drop)]
 pub struct WitnessProgram {
     pub version: u8,
-    pub program: ArrayVec<u8, MAX_BYTES>,
+    pub program: ArrayVec<u8, MAX_DIGITS>,
 }
 
 /// Why a text isn't read as an address.
@@ -73,12 +73,12 @@ fn program_of(prefix: &[u8], text: &[u8]) -> WitnessProgram
 }
 
 /// The whole bytes in the bits of groups.
-fn bytes_of(groups: &[u8]) -> ArrayVec<u8, MAX_BYTES>
+fn bytes_of(groups: &[u8]) -> ArrayVec<u8, MAX_DIGITS>
     requires most { length groups.now ≤ MAX_ADDRESS }
     requires below { All IsGroup groups.now }
     ensures { result.items ≡ bytes_of groups.now }
 {
-    bits_of(groups).into_bytes()
+    bits_of(groups).into_digits()
 }
 
 /// Why the text is no address, if it is none.
@@ -193,12 +193,12 @@ fn program_refusal(version: u8, groups: &[u8]) -> Option<AddressError>
 }
 
 /// The bits of groups.
-fn bits_of(groups: &[u8]) -> ByteWriter
+fn bits_of(groups: &[u8]) -> BitWriter<8>
     requires most { length groups.now ≤ MAX_ADDRESS }
     requires below { All IsGroup groups.now }
     ensures { result ≡ record { count = 5 * length groups.now; number = number_of 5 groups.now } }
 {
-    let mut bits = ByteWriter::new();
+    let mut bits = BitWriter::new();
     for group in groups {
         bits.write(*group, 5);
     }

@@ -11,9 +11,10 @@ use crate::point::{Affine, Point};
 use crate::secret::secret_multiple;
 use curve_field::Scalar;
 
-/// Both multiplications give one point.
+/// Both multiplications give the multiple along the 256 bits of the scalar.
 pub fn multiplications_agree(point: &Affine, scalar: Scalar) -> (Point, Point)
-    ensures { result.0 ≡ result.1 }
+    ensures public { result.0 ≡ multiple 256 scalar (Point.Finite point.now) }
+    ensures secret { result.1 ≡ multiple 256 scalar (Point.Finite point.now) }
 {
     (multiple(point, scalar), secret_multiple(point, scalar))
 }
