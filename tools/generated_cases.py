@@ -119,22 +119,26 @@ def made(seed, kinds):
     return KINDS[rng.choice(kinds)](rng)
 
 
+# All that these calls take is in the words of a case.
+WITHOUT_DATA = ("words", "random_needed")
+
+
 def request(case):
     """Returns a case as a line for a reader."""
     kind, words, options = plain.parts(case.words)
-    passphrase = options.get("passphrase", "")
+    passphrase, most = options.get("passphrase", ""), options.get("max-exponent", "15")
     flag = {name: "1" if options.get(name) else "" for name in plain.FLAGS}
     values = {
         "create": lambda: [*words, bytes.fromhex(options["master-secret"]), passphrase, options.get("exponent", "0"), flag["extendable"]],
-        "recover": lambda: [passphrase, options.get("expect"), flag["fingerprint"]],
-        "drill": lambda: [passphrase, options.get("after"), options.get("expect"), options.get("limit", str(2**31)), flag["fingerprint"]],
+        "recover": lambda: [passphrase, options.get("expect"), flag["fingerprint"], most],
+        "drill": lambda: [passphrase, options.get("after"), options.get("expect"), options.get("limit", str(2**31)), flag["fingerprint"], most],
         "resplit": lambda: [*words, bytes.fromhex(options["random"])],
         "judge": lambda: [bytes.fromhex(*words)],
         "create_from_encrypted": lambda: [*words, options["id"], flag["extendable"], options["exponent"], bytes.fromhex(options["random"])],
         "decrypt": lambda: [options["id"], flag["extendable"], options["exponent"], passphrase, options.get("expect")],
         "decrypt_round": lambda: [*words, options["id"], flag["extendable"], options["exponent"], passphrase],
     }.get(kind, lambda: words)()
-    given = [value.encode() if isinstance(value, str) else value for value in [*values, *([] if kind == "words" else [case.data])]]
+    given = [value.encode() if isinstance(value, str) else value for value in [*values, *([] if kind in WITHOUT_DATA else [case.data])]]
     return " ".join([kind, *("-" if value is None else "." + value.hex() for value in given)])
 
 
@@ -159,10 +163,9 @@ class Reader:
     takes: Callable[[Any], bool] = every
 
 
-def differences(batch):
-    """Returns how many cases of a batch the readers take, and how one of them differs, or nothing."""
-    numbers, seed, kinds, readers = batch
-    cases, count = [(number, made(f"{seed}/{number}", kinds)) for number in numbers], 0
+def differences(cases, readers):
+    """Returns how many of the numbered cases the readers take, and how one of them differs, or nothing."""
+    count = 0
     for reader in readers:
         taken = [(number, case) for number, case in cases if reader.takes(case)]
         lines = "".join(request(case) + "\n" for _, case in taken)
@@ -181,12 +184,18 @@ def differences(batch):
     return count, ""
 
 
+def of_batch(batch):
+    """Returns what `differences` does of the generated cases of a batch."""
+    numbers, seed, kinds, readers = batch
+    return differences([(number, made(f"{seed}/{number}", kinds)) for number in numbers], readers)
+
+
 def compare_all(readers, count, seed, kinds=tuple(KINDS)):
     """Compares readers on so many cases, side by side. Returns how many they take. At the first difference, the tool prints it and exits."""
     batches = [(range(at, min(at + BATCH, count)), seed, kinds, readers) for at in range(0, count, BATCH)]
     tried = 0
     with workers() as pool:
-        for more, told in pool.map(differences, batches):
+        for more, told in pool.map(of_batch, batches):
             tried += more
             if told:
                 sys.exit(told)

@@ -37,8 +37,11 @@ const COMMANDS = {
     const options = { passphrase: passphraseOf(passphrase), extendable: isSet(flag), exponent: number(exponent), random };
     return ended(shamir.create(text(plan), secret, options));
   },
-  recover(passphrase, expect, flag, lines) {
-    const secret = shamir.recover(lines, { passphrase: passphraseOf(passphrase), expect: text(expect) });
+  random_needed(plan, size) {
+    return ended([shamir.randomNeeded(text(plan), number(size))]);
+  },
+  recover(passphrase, expect, flag, most, lines) {
+    const secret = shamir.recover(lines, { passphrase: passphraseOf(passphrase), expect: text(expect), maxExponent: number(most) });
     return ended([isSet(flag) ? shamir.fingerprint(secret) : hex(secret)]);
   },
   encrypted(lines) {
@@ -53,14 +56,21 @@ const COMMANDS = {
     const options = { passphrase: passphraseOf(passphrase) };
     return ended([hex(shamir.decryptRound(encryptedOf(id, flag, exponent, value), number(round), options))]);
   },
-  drill(passphrase, after, expect, limit, flag, lines) {
-    const options = { passphrase: passphraseOf(passphrase), after: text(after), fingerprints: isSet(flag), expect: text(expect) };
+  drill(passphrase, after, expect, limit, flag, most, lines) {
+    const forms = { after: text(after), fingerprints: isSet(flag), expect: text(expect) };
+    const options = { passphrase: passphraseOf(passphrase), maxExponent: number(most), ...forms };
     const listed = [];
     for (const outcome of shamir.drill(lines, options)) {
       if (listed.length >= number(limit)) return ended([...listed, `more after ${listed.at(-1).split(" ")[0]}`]);
       listed.push(`${outcome.names} ${outcomeText(outcome)}`);
     }
     return ended([...listed, "end"]);
+  },
+  quorums(lines) {
+    return ended([shamir.quorums(lines)]);
+  },
+  fingerprint(secret) {
+    return ended([shamir.fingerprint(secret)]);
   },
   status(lines) {
     return statusText(shamir.status(lines));

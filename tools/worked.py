@@ -1,8 +1,8 @@
 """Worked examples of each call of the library, with values from outside: published vectors, and what other programs computed.
 
-tools/check_portable/driver.c makes the calls. Each example is also made with an output that is one byte longer, with one that is one byte
-too short, and with NULL in its place. A refusal comes before that of the room. For each answer, shamir_text gives its text, and so
-does the text's own call with such outputs.
+tools/check_portable/driver.c makes the calls, and tools/worked_cases.py gives the examples to the other languages. In C, each is also made
+with an output that is one byte longer, with one that is one byte too short, and with NULL in its place. A refusal comes before that of the
+room. For each answer, shamir_text gives its text, and so does the text's own call with such outputs.
 """
 import importlib
 import json
@@ -79,6 +79,13 @@ UNEVEN_0 = "academic academic academic acid disease prepare husky home result ar
 UNEVEN_1 = "academic academic academic agency dragon mineral broken simple lips custody flame cylinder ending prune party scout beaver enlarge glasses bundle"
 UNEVEN_GROUP_0 = "academic academic acrobat easy disease prepare husky home result arcade lunar cover shame email oven tension nylon lawsuit smear antenna"
 UNEVEN_GROUP_1 = "academic academic beard easy dragon mineral broken simple lips custody flame cylinder ending prune party scout beaver presence thank adapt"
+# Two groups of two members. Another program made them. Only the digest of group 1 doesn't match.
+SECOND_UNEVEN = [
+    "desire necklace acrobat echo adult lawsuit blessing inherit moment worthy photo kernel acid soldier burden merit ugly burden hesitate crystal",
+    "desire necklace acrobat email canyon evoke debris building always slavery parcel coding earth receiver chubby move glad wildlife tadpole vanish",
+    "desire necklace beard echo amuse aspect increase dwarf armed alarm home ruler flea ugly fishing ceramic voting wrist reunion clothes",
+    "desire necklace beard email champion paces network afraid infant mobile pregnant desire merit black strategy ceiling move actress thorn view",
+]
 # The first two with the exponent 1.
 SLOW_UNEVEN_0 = "academic acid academic acid disease prepare husky home result arcade lunar cover shame email oven tension nylon graduate hobo ivory"
 SLOW_UNEVEN_1 = "academic acid academic agency dragon mineral broken simple lips custody flame cylinder ending prune party scout beaver deploy rhythm ancient"
@@ -92,6 +99,11 @@ LONG = "theory painting academic academic armed sweater year military elder disc
 # The only members of two groups of which one is needed, with two values: that of the first vector, and another. Another program wrote them.
 OTHER_GROUP_0 = "duckling enlarge academic easy agency result length solution fridge kidney coal piece deal husband erode duke ajar glasses leaf dive"
 OTHER_GROUP_1 = "duckling enlarge away easy academic acrobat aluminum debris activity alarm busy learn election animal deal snapshot likely standard alien paper"
+
+# Another program made these from the first vector: with a padding bit that isn't 0, with a group threshold of 2, and with a group count of 16.
+BAD_PADDING = "duckling enlarge academic academic email result length solution fridge kidney coal piece deal husband erode duke ajar music cargo fitness"
+BAD_GROUP_THRESHOLD = "duckling enlarge acrobat academic agency result length solution fridge kidney coal piece deal husband erode duke ajar hawk fatal desert"
+SIXTEEN = "duckling enlarge acquire romp agency result length solution fridge kidney coal piece deal husband erode duke ajar elbow entrance empty"
 
 
 @dataclass(frozen=True)
@@ -114,6 +126,17 @@ DONE = done(0, 0)
 HIGH = Answer(3, "exponent 2 above the maximum", first=2)
 
 Row = Tuple[Any, ...]
+# Why a mnemonic can't stand beside SIXTEEN. Another program changed one field of that, or the value.
+BESIDE_SIXTEEN: List[Row] = [
+    ("duckling evil acquire romp agency result length solution fridge kidney coal piece deal husband erode duke ajar failure vexed course", Answer(22, "other extendable flag", line=2)),
+    ("duckling entrance acquire romp agency result length solution fridge kidney coal piece deal husband erode duke ajar dive mountain fiction", Answer(23, "other exponent", line=2)),
+    ("duckling enlarge adapt romp agency result length solution fridge kidney coal piece deal husband erode duke ajar advocate criminal artist", Answer(24, "other group threshold", line=2)),
+    (OTHER_GROUP_0, Answer(25, "other group count", line=2)),
+    ("duckling enlarge acquire romp academic academic academic academic academic academic academic academic academic academic academic academic academic academic academic quantity glad seafood", Answer(26, "other length", line=2)),
+    ("duckling enlarge acquire scared agency result length solution fridge kidney coal piece deal husband erode duke ajar rhyme duckling taste", Answer(27, "other member threshold in group 0", line=2)),
+    ("duckling enlarge acquire romp academic academic academic academic academic academic academic academic academic academic academic academic academic beyond system salary", Answer(28, "conflicting share 0.0", line=2)),
+]
+
 # None stands for NULL with the length 0, and so do no lines.
 PARSED: List[Row] = [
     (ONE, DONE, "11bc609d21747c49ba78c0701293e417", (7945, 0, 0, 0, 1, 1, 0, 1)),
@@ -122,6 +145,9 @@ PARSED: List[Row] = [
     (EXTENDABLE, DONE, "9e8773c7313b11d3bfe219291976433b", (29019, 1, 3, 0, 1, 1, 0, 1)),
     (FIVE_4, DONE, "b831a4c3610155ebe5675e3ed9e6a11d", (1, 0, 0, 2, 2, 3, 0, 1)),
     (ONE_WRONG, Answer(13, "bad checksum"), "", None),
+    (BAD_PADDING, Answer(14, "bad padding"), "", None),
+    (BAD_GROUP_THRESHOLD, Answer(15, "group threshold above group count"), "", None),
+    (ONE + " academic", Answer(12, "21 words make no share", first=21), "", None),
     (ONE + "\n", Answer(11, "unknown word 20", first=20), "", None),
     ("", Answer(12, "0 words make no share"), "", None),
     ("academic academia", Answer(11, "unknown word 2", first=2), "", None),
@@ -136,6 +162,8 @@ NUMBERS: List[Row] = [
     (FIVE_PLAN, 15, Answer(42, "secret of 15 bytes", first=15)),
     (FIVE_PLAN, 17, Answer(42, "secret of 17 bytes", first=17)),
     ("1of1,1of3", 16, Answer(31, "bad plan")),
+    ("1of1\xff", 16, Answer(31, "bad plan")),
+    ("2/1of1", 15, Answer(32, "bad number of groups in plan")),
     ("2/2of2,1of2", 15, Answer(34, "one of many in plan group 1", first=1)),
     # The groups are judged one after the other. Group 1 alone would be refused with 33.
     ("2/1of3,5of2", 16, Answer(34, "one of many in plan group 0")),
@@ -154,6 +182,7 @@ CREATED: List[Row] = [
     (FIVE_PLAN, None, KEY, 0, None, Answer(42, "secret of 0 bytes"), []),
     (FIVE_PLAN, SECRET, KEY, 0, None, Answer(43, "random bytes: 26 needed", first=26), []),
     ("0of0", None, "a\x07", 16, None, Answer(2, "number out of range"), []),
+    ("2/1of1", None, "a\x07", 15, None, Answer(32, "bad number of groups in plan"), []),
     ("2/1of3,5of2", None, "a\x07", 15, None, Answer(34, "one of many in plan group 0"), []),
     ("2/2of2,3of2", None, "a\x07", 15, None, Answer(33, "bad number of members in plan group 1", first=1), []),
     ("1of1", "fourteen bytes", None, 0, None, Answer(42, "secret of 14 bytes", first=14), []),
@@ -174,6 +203,11 @@ REFUSED_LINES: List[Row] = [
     ([TWO_0, ONE], Answer(21, "other identifier", line=2)),
     ([OLD_0, ONE], Answer(21, "other identifier", line=2)),
     ([FIVE_0, FORGED_0], Answer(28, "conflicting share 0.0", line=2)),
+    ([FIVE_2, "", FORGED_2], Answer(28, "conflicting share 0.2", line=3, second=2)),
+    ([ONE + " academic"], Answer(12, "21 words make no share", line=1, first=21)),
+    (["", BAD_PADDING], Answer(14, "bad padding", line=2)),
+    ([BAD_GROUP_THRESHOLD], Answer(15, "group threshold above group count", line=1)),
+    *(([SIXTEEN, line], answer) for line, answer in BESIDE_SIXTEEN),
     (["#" * 1025], Answer(71, "line too long", line=1)),
 ]
 
@@ -191,6 +225,8 @@ RECOVERED: List[Row] = [
     ([FIVE_3, "", "# a note", FIVE_4], KEY, 15, None, DONE, SECRET),
     ([ONE], None, 0, None, DONE, OTHER_SECRET),
     ([TWO_0], KEY, 0, None, Answer(30, "incomplete: 0 of 1 groups", second=1), ""),
+    ([FIVE_3], KEY, 0, None, Answer(30, "incomplete: 1 of 2 groups", first=1, second=2), ""),
+    (SECOND_UNEVEN, None, 15, None, Answer(51, "digest mismatch in group 1", first=1), ""),
     ([UNEVEN_0, UNEVEN_1], None, 15, None, Answer(51, "digest mismatch in group 0"), ""),
     ([UNEVEN_GROUP_0, UNEVEN_GROUP_1], None, 15, None, Answer(51, "digest mismatch of groups", first=OF_GROUPS), ""),
     ([], "a\x07", 0, None, Answer(41, "passphrase byte 2 not printable", first=2), ""),
@@ -240,7 +276,9 @@ ENCRYPTED: List[Row] = [
     ([FIVE_0, FIVE_1, FORGED_2, FIVE_3, FIVE_4], DONE, FIVE_ENCRYPTED, FIVE_KEPT),
     ([FORGED_0, FIVE_1, FIVE_2, FIVE_3, FIVE_4], Answer(51, "digest mismatch in group 0"), "", None),
     ([UNEVEN_GROUP_0, UNEVEN_GROUP_1], Answer(51, "digest mismatch of groups", first=OF_GROUPS), "", None),
+    (SECOND_UNEVEN, Answer(51, "digest mismatch in group 1", first=1), "", None),
     ([TWO_0], Answer(30, "incomplete: 0 of 1 groups", second=1), "", None),
+    ([FIVE_3], Answer(30, "incomplete: 1 of 2 groups", first=1, second=2), "", None),
 ]
 
 DECRYPTED: List[Row] = [
@@ -431,6 +469,7 @@ DRILLED: List[Row] = [
     ([], "a\x07", 0, "0.1", 1, DIGITS, None, ROOM, Answer(41, "passphrase byte 2 not printable", first=2), 0, ""),
     ([], None, 0, "0.1", 1, DIGITS, None, ROOM, Answer(29, "no shares"), 0, ""),
     ([TWO_2], None, 0, "0.1", 1, DIGITS, None, ROOM, Answer(30, "incomplete: 0 of 1 groups", second=1), 0, ""),
+    ([FIVE_3], None, 0, None, 1, DIGITS, None, ROOM, Answer(30, "incomplete: 1 of 2 groups", first=1, second=2), 0, ""),
     (FIVE, None, 15, "0.1", 1, DIGITS, None, ROOM, Answer(62, "cursor is no quorum"), 0, ""),
 ]
 
@@ -470,12 +509,17 @@ JUDGED: List[Row] = [
     (["academia"], "academia".ljust(1025), Answer(71, "line too long"), "", None),
     (["academia", "#" * 1025], ONE_WRONG, Answer(13, "bad checksum"), "", None),
     ([FIVE_0], "academic academia", Answer(11, "unknown word 2", first=2), "", None),
+    ([FIVE_0], BAD_PADDING, Answer(14, "bad padding"), "", None),
+    ([FIVE_0], BAD_GROUP_THRESHOLD, Answer(15, "group threshold above group count"), "", None),
     ([FIVE_0], FIVE_0 + "\n", Answer(11, "unknown word 20", first=20), "", None),
     ([FIVE_0], "# a note", Answer(11, "unknown word 1", first=1), "", None),
     (None, None, Answer(12, "0 words make no share"), "", None),
     # Then the lines.
     ([ONE, "academic x"], FIVE_0, Answer(11, "unknown word 2", line=2, first=2), "", None),
+    ([ONE + " academic"], FIVE_0, Answer(12, "21 words make no share", line=1, first=21), "", None),
     ([FIVE_3, ONE_WRONG, "academia"], FIVE_0, Answer(13, "bad checksum", line=2), "", None),
+    ([BAD_PADDING], FIVE_0, Answer(14, "bad padding", line=1), "", None),
+    ([FIVE_3, BAD_GROUP_THRESHOLD], FIVE_0, Answer(15, "group threshold above group count", line=2), "", None),
     ([ONE, "", "#" * 1025], FIVE_0, Answer(71, "line too long", line=3), "", None),
     ([ONE, FIVE_0, FORGED_0], FIVE_3, Answer(28, "conflicting share 0.0", line=3), "", None),
     ([FIVE_0, FORGED_0], FORGED_0, Answer(28, "conflicting share 0.0", line=2), "", None),
@@ -520,6 +564,7 @@ SPLIT_ANEW: List[Row] = [
     ("1of2", ["academia"], None, Answer(34, "one of many in plan group 0"), []),
     ("1of1", [OLD_0, OLD_2], bytes.fromhex("236a00"), Answer(43, "random bytes: 2 needed", first=2), []),
     ("2/2of3", ["academia"], None, Answer(32, "bad number of groups in plan"), []),
+    ("2/2of2,3of2", ["academia"], None, Answer(33, "bad number of members in plan group 1", first=1), []),
     (FIVE_PLAN, [OLD_0], None, Answer(30, "incomplete: 0 of 1 groups", second=1), []),
     (FIVE_PLAN, [OLD_0, OLD_FORGED_2], None, Answer(51, "digest mismatch in group 0"), []),
     (FIVE_PLAN, [ONE], None, Answer(67, "backup isn't extendable"), []),
@@ -567,6 +612,8 @@ REISSUED: List[Row] = [
     (FIVE_PLAN, "3.1", ["academia"], Answer(64, "name 3.1 not in plan", first=3, second=1), []),
     ("2of3", "1.0", ["academia"], Answer(64, "name 1.0 not in plan", first=1), []),
     ("2/2of3", "0.1+0.0", ["academia"], Answer(32, "bad number of groups in plan"), []),
+    ("2/2of2,3of2", "0.1+0.0", ["academia"], Answer(33, "bad number of members in plan group 1", first=1), []),
+    ("2/1of3,5of2", "0.1+0.0", ["academia"], Answer(34, "one of many in plan group 0"), []),
     (FIVE_PLAN, "0.1", [FIVE_3, FIVE_4], Answer(66, "cannot tell 0.1: 0 of 2 members, 2 of 2 other groups", first=1, second=0x00020202), []),
     (FIVE_PLAN, "0.1", [FIVE_0, FIVE_3], Answer(66, "cannot tell 0.1: 1 of 2 members, 1 of 2 other groups", first=1, second=0x01020102), []),
     (FIVE_PLAN, "2.0", [FIVE_0, FIVE_1], Answer(66, "cannot tell 2.0: 0 of 1 members, 1 of 2 other groups", first=512, second=0x00010102), []),
@@ -653,6 +700,8 @@ REPAIRED: List[Row] = [
         "duckling enlarge academic academic agency result solution length fridge kidney coal piece deal husband erode duke ajar critical decision keyboard",
         Answer(13, "bad checksum"), "",
     ),
+    (BAD_PADDING, Answer(14, "bad padding"), ""),
+    (BAD_GROUP_THRESHOLD, Answer(15, "group threshold above group count"), ""),
     (None, Answer(12, "0 words make no share"), ""),
 ]
 

@@ -3,8 +3,8 @@
     python3 tools/check_cpp [--cases N] [--seed S]
 
 The header compiles without a warning, and makes each call of shamir.h. Over libshamir.a, with the compilers' sanitizers, and over dist/c,
-tests.cpp finds the values that other programs computed, and nothing secret in memory that is freed. On generated cases, answers.cpp gives what
-a plain reading of the standard in Python gives (tools/plain.py). The tool says what it leaves out if a compiler isn't here. It exits with
+tests.cpp finds the values that other programs computed, and nothing secret in memory that is freed. answers.cpp gives what the worked examples
+of tools/worked.py say, and on generated cases what a plain reading of the standard in Python gives (tools/plain.py). The tool says what it leaves out if a compiler isn't here. It exits with
 status 1 if something differs.
 """
 import argparse
@@ -22,6 +22,7 @@ sys.path.insert(0, str(HERE.parent))
 import generated_cases  # noqa: E402
 import plain  # noqa: E402
 import shamir_h  # noqa: E402
+import worked_cases  # noqa: E402
 from left_out import is_here  # noqa: E402
 from tool import ran  # noqa: E402
 
@@ -89,10 +90,11 @@ def can_be_said(case):
 
 
 def check_cases(compiler, folder, count, seed):
-    """Compares generated cases, and returns how many."""
+    """Compares worked examples and generated cases, and returns how many of each."""
     program = f"{folder}/answers"
     ran([compiler, "-std=c++17", *STRICT, *SANITIZED, HERE / "answers.cpp", ROOT / "libshamir.a", "-o", program])
-    return generated_cases.compare_all([generated_cases.Reader("shamir.hpp", [program], takes=can_be_said)], count, seed)
+    reader = generated_cases.Reader("shamir.hpp", [program], takes=can_be_said)
+    return worked_cases.compare_with(reader), generated_cases.compare_all([reader], count, seed)
 
 
 def main():
@@ -109,8 +111,8 @@ def main():
     with tempfile.TemporaryDirectory() as folder:
         for compiler in here:
             check_compiler(compiler, folder)
-        tried = check_cases(here[0], folder, args.cases, args.seed)
-    print(f"shamir.hpp: its tests pass with {' and '.join(here)}, and {tried} generated cases agree")
+        examples, tried = check_cases(here[0], folder, args.cases, args.seed)
+    print(f"shamir.hpp: its tests pass with {' and '.join(here)}, and {examples} worked examples and {tried} generated cases agree")
 
 
 if __name__ == "__main__":

@@ -93,12 +93,18 @@ Output create(const Values &given)
     return lines(made);
 }
 
+Output random_needed(const Values &given)
+{
+    return told(shamir::random_needed(*given[0], number(given[1])), [](const auto &count) { return std::to_string(count) + "\n"; });
+}
+
 Output recover(const Values &given)
 {
     shamir::RecoverOptions options;
     options.passphrase = *given[0];
     options.expected = given[1];
-    const auto secret = shamir::recover(*given[3], options);
+    options.max_exponent = number(given[3]);
+    const auto secret = shamir::recover(*given[4], options);
     if (given[2]->empty()) {
         return digits(secret);
     }
@@ -153,9 +159,10 @@ Output drill(const Values &given)
     options.after = given[1] ? shamir::detail::names(*given[1]) : shamir::Names();
     options.expected = given[2];
     options.fingerprints = !given[4]->empty();
+    options.max_exponent = number(given[5]);
     options.at_once = 20;
     std::string listed, last;
-    const auto drilled = shamir::drill(*given[5], options, [&](const shamir::Outcome &outcome, const shamir::Progress &progress) {
+    const auto drilled = shamir::drill(*given[6], options, [&](const shamir::Outcome &outcome, const shamir::Progress &progress) {
         if (progress.listed > number(given[3])) {
             return false;
         }
@@ -164,6 +171,16 @@ Output drill(const Values &given)
         return true;
     });
     return told(drilled, [&](const auto &it) { return listed + (it.ended ? "end" : "more after " + last) + "\n"; });
+}
+
+Output quorums(const Values &given)
+{
+    return told(shamir::quorums(*given[0]), [](const auto &count) { return std::to_string(count) + "\n"; });
+}
+
+Output fingerprint(const Values &given)
+{
+    return told(shamir::fingerprint(bytes(given[0])), [](const auto &digits) { return digits + "\n"; });
 }
 
 Output status(const Values &given) { return told(shamir::status(*given[0]), [](const auto &it) { return shamir::to_text(it); }); }
@@ -201,7 +218,7 @@ const std::map<std::string, Output (*)(const Values &)> commands = {
     {"show", show}, {"create", create}, {"recover", recover}, {"encrypted", encrypted}, {"decrypt", decrypt}, {"drill", drill},
     {"status", status}, {"judge", judge}, {"reissue", reissue}, {"resplit", resplit}, {"repair", repair}, {"words", words},
     {"create_from_encrypted", create_from_encrypted},
-    {"decrypt_round", decrypt_round},
+    {"decrypt_round", decrypt_round}, {"random_needed", random_needed}, {"quorums", quorums}, {"fingerprint", fingerprint},
 };
 
 } // namespace

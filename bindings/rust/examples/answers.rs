@@ -6,8 +6,8 @@ use shamir::{
     CreateOptions, DecryptOptions, Drill, EncryptedSecret, Error, Found, Plan, RecoverOptions, Secret, ShareFields, Status,
 };
 use shamir::{
-    create, create_from_encrypted, create_with, decrypt, decrypt_round, encrypted, fingerprint, judge, parse, recover, reissue,
-    repair, resplit, status, words,
+    create, create_from_encrypted, create_with, decrypt, decrypt_round, encrypted, fingerprint, judge, parse, quorums, recover,
+    reissue, repair, resplit, status, words,
 };
 use std::fmt::Write;
 use std::io::{self, BufRead};
@@ -59,8 +59,8 @@ fn created(plan: &[u8], secret: &[u8], options: &CreateOptions<'_>, random: &[u8
     Ok(mnemonics.as_str().into())
 }
 
-fn options<'a>(passphrase: &'a [u8], expected: &'a Value) -> RecoverOptions<'a> {
-    let options = RecoverOptions::new().passphrase(passphrase);
+fn options<'a>(passphrase: &'a [u8], expected: &'a Value, most: &[u8]) -> RecoverOptions<'a> {
+    let options = RecoverOptions::new().passphrase(passphrase).max_exponent(number(most));
     expected.as_ref().map_or(options, |expected| options.expected(expected))
 }
 
@@ -134,8 +134,9 @@ fn answer(command: &str, values: &[Value]) -> Result<String, Error> {
                 CreateOptions::new().passphrase(passphrase).exponent(number(exponent)).extendable(!extendable.is_empty());
             created(plan, secret, &options, random)
         }
-        ("recover", [passphrase, _, as_fingerprint, lines]) => {
-            recovered(lines, &options(passphrase, &values[1]), !as_fingerprint.is_empty())
+        ("random_needed", [plan, size]) => Ok(format!("{}\n", text(plan).parse::<Plan>()?.random_needed(number(size) as usize)?)),
+        ("recover", [passphrase, _, as_fingerprint, most, lines]) => {
+            recovered(lines, &options(passphrase, &values[1], most), !as_fingerprint.is_empty())
         }
         ("encrypted", [lines]) => Ok(kept(&encrypted(lines)?)),
         ("decrypt", [id, extendable, exponent, passphrase, _, value]) => {
@@ -147,11 +148,12 @@ fn answer(command: &str, values: &[Value]) -> Result<String, Error> {
             Ok(format!("{}\n", hex(text.as_bytes())))
         }
         ("create_from_encrypted", [plan, id, extendable, exponent, random, value]) => {
+            let plan = text(plan).parse()?;
             let secret = encrypted_secret(id, extendable, exponent, value)?;
-            Ok(create_from_encrypted(&text(plan).parse()?, &secret, random)?.as_str().into())
+            Ok(create_from_encrypted(&plan, &secret, random)?.as_str().into())
         }
-        ("drill", [passphrase, after, _, limit, as_fingerprints, lines]) => {
-            let mut drill = Drill::new(lines, &options(passphrase, &values[2]));
+        ("drill", [passphrase, after, _, limit, as_fingerprints, most, lines]) => {
+            let mut drill = Drill::new(lines, &options(passphrase, &values[2], most));
             if values[1].is_some() {
                 drill = drill.after(after);
             }
@@ -160,6 +162,8 @@ fn answer(command: &str, values: &[Value]) -> Result<String, Error> {
             }
             drilled(drill, number(limit) as usize)
         }
+        ("quorums", [lines]) => Ok(format!("{}\n", quorums(lines)?)),
+        ("fingerprint", [secret]) => Ok(format!("{}\n", fingerprint(&Secret::new(secret)?))),
         ("status", [lines]) => Ok(statuses(&status(lines)?)),
         ("judge", [line, lines]) => {
             let found = judge(lines, line)?;
