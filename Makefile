@@ -208,7 +208,7 @@ twins:
 
 # Each sum of checks first builds what its checks need. Then it runs them side by side: as many as JOBS says, or as many as -j says.
 # Those that take longest come first. tools/part writes the name of a check before each of its lines.
-LIBRARY_CHECKS = check-rust check-header check-cpp check-clients check-vectors check-js
+LIBRARY_CHECKS = check-rust check-header check-cpp check-clients check-vectors check-js check-calls
 PACKAGES_CHECKS = check-debs check-installed
 SECRETS_CHECKS = check-leftovers check-timing
 PAGE_PARTS = privacy change refusals tasks journey entry looks astray hasty long agreement ways
@@ -297,6 +297,9 @@ check-allocations: shamir
 
 check-header: shamir libshamir.so $(SONAME)
 	$(PART) tools/library
+
+check-calls:
+	$(PART) tools/calls
 
 check-cpp: libshamir.so
 	$(PART) $(PYTHON) tools/check_cpp

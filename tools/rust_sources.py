@@ -70,12 +70,8 @@ def check_unsafe(texts):
 
 
 def check_numbers(texts):
-    """Checks the codes of the errors, and the numbers that the crate shares with the header."""
+    """Checks the numbers that the crate shares with the header."""
     crate = "".join(texts.values())
-    codes = [("".join(part.title() for part in name.split("_")), str(number)) for name, number in shamir_h.CODES.items() if number]
-    ours = re.findall(r"^    (\w+) = (\d+)(?: \{|;)", texts["error.rs"], re.MULTILINE)
-    if codes != ours:
-        sys.exit(f"bindings/rust has other codes than include/shamir.h: {ours}")
     found = {name: int(number) for name, number in re.findall(r"^(?:pub |pub\(crate\) )?const (\w+): \w+ = (\d+);$", crate, re.MULTILINE)}
     wrong = [name for name, number in shamir_h.NUMBERS.items() if name not in UNUSED and found.get(name) != number]
     if wrong:

@@ -1,6 +1,6 @@
 """Reads include/shamir.h: its calls with their parameters, its structs, its codes and numbers, and what its comments say."""
 import re
-from typing import Dict, Iterator, List, NamedTuple, Tuple
+from typing import Dict, Iterator, List, NamedTuple, Set, Tuple
 
 from tool import ROOT
 
@@ -57,3 +57,20 @@ def structs(text: str = TEXT) -> Dict[str, List[Declared]]:
 def declared(text: str) -> Declared:
     kind, name = re.fullmatch(r"(.*?)(\w+)", " ".join(text.split())).groups()  # type: ignore[union-attr]
     return Declared(kind.strip(), name)
+
+
+def listed(text: str) -> Set[int]:
+    """Returns the codes of a list such as `2 (a limit of 0), 11 to 15, 1`. What stands in brackets and isn't such a list is left out."""
+    outside = re.sub(r"\((?![\d ,to]+\))[^)]*\)", "", text)
+    ranges = ((int(first), int(last or first)) for first, last in re.findall(r"\b(\d+)(?: to (\d+))?\b", outside))
+    return {code for first, last in ranges for code in CODES.values() if first <= code <= last}
+
+
+def refusals(text: str = TEXT) -> Dict[str, Set[int]]:
+    """Returns the codes that the comment of each call lists."""
+    found = {}
+    for call, (_, _, says) in calls(text).items():
+        lists = [it for it in says if it.startswith(("The call refuses with the first of these that applies: ", "The only refusal is "))]
+        first, *_ = re.split(r"\.(?: |$)", " ".join(lists[0].split())) if lists else [""]
+        found[call] = listed(first)
+    return found

@@ -2,7 +2,7 @@
 
     python3 tools/check_cpp [--cases N] [--seed S]
 
-The header compiles without a warning, and makes each call of shamir.h. Over libshamir.a, with the compilers' sanitizers, and over dist/c,
+The header compiles without a warning. Over libshamir.a, with the compilers' sanitizers, and over dist/c,
 tests.cpp finds the values that other programs computed, and nothing secret in memory that is freed. answers.cpp gives what the worked examples
 of tools/worked.py say, and on generated cases what a plain reading of the standard in Python gives (tools/plain.py). The tool says what it leaves out if a compiler isn't here. It exits with
 status 1 if something differs.
@@ -21,7 +21,6 @@ sys.path.insert(0, str(HERE.parent))
 
 import generated_cases  # noqa: E402
 import plain  # noqa: E402
-import shamir_h  # noqa: E402
 import worked_cases  # noqa: E402
 from left_out import is_here  # noqa: E402
 from tool import ran  # noqa: E402
@@ -43,14 +42,6 @@ MISUSED = {
 }
 # A cursor or names that aren't written in this form can't be given as pairs.
 NAMES = re.compile(r"(?:(?:0|[1-9]\d{0,8})\.(?:0|[1-9]\d{0,8})(?:\+(?!$)|$))*")
-
-
-def check_calls():
-    """Checks that the layer makes each call of the library."""
-    made = set(re.findall(r"\bshamir_\w+(?=\()", (HEADERS / "shamir.hpp").read_text()))
-    missing = set(shamir_h.calls()) - made
-    if missing:
-        sys.exit(f"include/shamir.hpp makes no call of {' and '.join(sorted(missing))}")
 
 
 def check_misuse(compiler):
@@ -102,7 +93,6 @@ def main():
     parser.add_argument("--cases", type=int, default=400)
     parser.add_argument("--seed", type=int, default=39)
     args = parser.parse_args()
-    check_calls()
     here = [it for it in COMPILERS if is_here(it, "it doesn't compile include/shamir.hpp")]
     if not here:
         return
