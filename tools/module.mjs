@@ -109,7 +109,9 @@ function answer(line) {
     return [COMMANDS[command](...words.map(valueOf)), ""];
   } catch (error) {
     if (!(error instanceof Refusal)) throw error;
-    return ["", error.message];
+    const { line, code, details, message } = error;
+    if (message !== `${line === null ? "" : `line ${line}: `}${code} ${shamir.text({ code, details })}`) throw error;
+    return ["", message];
   }
 }
 

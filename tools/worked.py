@@ -271,6 +271,7 @@ ENCRYPTED: List[Row] = [
     ([HIGH_OLD_0, HIGH_OLD_2], DONE, OLD_ENCRYPTED, (9066, 1, 15)),
     ([LONG], DONE, LONG_ENCRYPTED, LONG_KEPT),
     ([OTHER_GROUP_1, OTHER_GROUP_0], DONE, ONE_ENCRYPTED, ONE_KEPT),
+    (NEW_FIVE[3:], DONE, OLD_ENCRYPTED, (1, 1, 0)),
     ([OLD_0, OLD_FORGED_2], Answer(51, "digest mismatch in group 0"), "", None),
     # The first quorum is taken, and no other one is tried.
     ([FIVE_0, FIVE_1, FORGED_2, FIVE_3, FIVE_4], DONE, FIVE_ENCRYPTED, FIVE_KEPT),
@@ -696,6 +697,7 @@ REPAIRED: List[Row] = [
         "duckling enlarge academic academic agency result lend solution fridge kidney coal piece deal husband erode duke ajar critical decision keyboard",
         Answer(18, "bad checksum: if one word is wrong, it is word 7", first=7), "",
     ),
+    (ONE.replace("length", "ze?"), Answer(18, "bad checksum: if one word is wrong, it is word 7", first=7), ""),
     (
         "duckling enlarge academic academic agency result solution length fridge kidney coal piece deal husband erode duke ajar critical decision keyboard",
         Answer(13, "bad checksum"), "",

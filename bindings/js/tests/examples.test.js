@@ -1,10 +1,8 @@
-/** Worked examples of each call. The same as those of the Python package. */
+/** How each call reads and answers in JavaScript. tools/javascript compares the worked examples of tools/worked.py. */
 import assert from "node:assert/strict";
-import { createHmac } from "node:crypto";
 import test from "node:test";
 import { load, OF_GROUPS } from "../shamir.js";
-import * as given from "./given.js";
-import { AS_BEFORE, FIVE, FIVE_QUORUMS, MISMATCHED, MISMATCHED_GROUPS, ONE, PLAN, SECRET, TWO, TWO_SECRET } from "./given.js";
+import { AS_BEFORE, FIVE, FIVE_QUORUMS, MISMATCHED, MISMATCHED_GROUPS, ONE, PLAN, SECRET, TWO } from "./given.js";
 import { ENCRYPTED, EXTENDABLE, SPLIT_ANEW, UNDONE, bytesOf, counting, file, ofHex, refused, shamir } from "./given.js";
 
 const KEY = { passphrase: "TREZOR" };
@@ -14,21 +12,11 @@ test("parse", () => {
   const fields = { id: 7945, extendable: false, exponent: 0, groupIndex: 0, groupThreshold: 1, groupCount: 1, memberIndex: 0, memberThreshold: 1 };
   assert.deepEqual(shamir.parse(ONE), { ...fields, value });
   assert.deepEqual(shamir.parse(`\t${ONE.toUpperCase().replaceAll(" ", " \t ")}\r`), { ...fields, value });
-  const fifth = { ...shamir.parse(FIVE[4]), value: null };
-  assert.deepEqual(fifth, { ...fields, id: 1, groupIndex: 2, groupThreshold: 2, groupCount: 3, value: null });
-  assert.equal(shamir.parse(TWO[0]).memberIndex, 2);
-  assert.equal(shamir.parse(TWO[0]).exponent, 2);
 });
 
 test("create", () => {
-  assert.equal(shamir.randomNeeded(PLAN, 16), 26);
   assert.deepEqual(shamir.create(PLAN, SECRET, { ...AS_BEFORE, random: counting(26) }), FIVE);
   assert.deepEqual(shamir.createBytes(PLAN, SECRET, { ...AS_BEFORE, random: counting(26) }), FIVE.map(bytesOf));
-  assert.deepEqual(shamir.create("1of1", SECRET, { ...AS_BEFORE, random: ofHex("1f09") }), [ONE]);
-  // With these random bytes, 2of3 gives the two mnemonics of TWO in reverse order, and one between them.
-  const random = ofHex("64359164e7a006aadd75179d6d5c");
-  const [first, , third] = shamir.create("2of3", TWO_SECRET, { ...AS_BEFORE, exponent: 2, random });
-  assert.deepEqual([third, first], TWO);
   assert.deepEqual(shamir.recover(shamir.create("10of16", counting(128)).slice(6)), counting(128));
   const flags = [false, true].map((extendable) => shamir.parse(shamir.create("1of1", SECRET, { extendable })[0]).extendable);
   assert.deepEqual(flags, [false, true]);
@@ -61,44 +49,20 @@ test("random bytes are drawn anew for each backup", () => {
   assert.equal(new Set(made).size, 3);
 });
 
-test("recover", () => {
-  assert.deepEqual(shamir.recover(ONE, KEY), SECRET);
-  assert.deepEqual(shamir.recover(TWO, KEY), TWO_SECRET);
-  assert.deepEqual(shamir.recover(FIVE.slice(3), KEY), SECRET);
-  assert.notDeepEqual(shamir.recover(FIVE), SECRET);
-});
-
-test("recover, compared with the fingerprint that is expected", () => {
-  for (const expect of ["df41d8fe", "DF41D8fe", bytesOf("df41d8fe"), undefined]) {
+test("an expected fingerprint is a text, bytes or left out", () => {
+  for (const expect of ["df41d8fe", bytesOf("DF41d8fe"), undefined]) {
     assert.deepEqual(shamir.recover(FIVE, { ...KEY, expect }), SECRET);
-  }
-  for (const [passphrase, expect] of [["TREZOr", "df41d8fe"], ["TREZOR", "df41d8ff"]]) {
-    assert.throws(() => shamir.recover(FIVE, { passphrase, expect }), { code: 52, line: null, details: [0, 0], text: "other secret" });
+    assert.deepEqual(shamir.decrypt(ENCRYPTED[0], { ...KEY, expect }), SECRET);
   }
 });
 
-test("encrypted and decrypt", () => {
-  const secrets = [SECRET, TWO_SECRET, SECRET, ofHex("48b1a4b80b8c209ad42c33672bdaa428")];
-  for (const [i, lines] of [ONE, TWO, FIVE, EXTENDABLE].entries()) {
-    const kept = shamir.encrypted(lines);
-    assert.deepEqual(kept, ENCRYPTED[i]);
-    assert.deepEqual(shamir.decrypt(kept, KEY), secrets[i]);
-    for (const passphrase of ["", "trezor"]) assert.deepEqual(shamir.decrypt(kept, { passphrase }), shamir.recover(lines, { passphrase }));
-  }
+test("encrypted", () => {
+  assert.deepEqual(shamir.encrypted(EXTENDABLE), ENCRYPTED[3]);
   assert.deepEqual(shamir.encrypted(bytesOf(FIVE.slice(3).join("\n"))), ENCRYPTED[2]);
-  for (const expect of ["df41d8fe", bytesOf("DF41d8fe"), undefined]) assert.deepEqual(shamir.decrypt(ENCRYPTED[0], { ...KEY, expect }), SECRET);
-  for (const options of [{ ...KEY, expect: "df41d8ff" }, { expect: "df41d8fe" }]) {
-    assert.throws(() => shamir.decrypt(ENCRYPTED[0], options), { code: 52, line: null, details: [0, 0], text: "other secret" });
-  }
 });
 
-test("decryptRound and decryptRounds", () => {
+test("decryptRounds", () => {
   for (const [i, texts] of UNDONE.entries()) {
-    let text = ENCRYPTED[2 + i];
-    for (const [place, undone] of texts.entries()) {
-      text = { ...text, value: shamir.decryptRound(text, 3 - place, KEY) };
-      assert.deepEqual(text.value, undone);
-    }
     for (const passphrase of ["TREZOR", bytesOf("TREZOR")]) {
       assert.deepEqual([...shamir.decryptRounds(ENCRYPTED[2 + i], { passphrase })], [null, null, null, texts[3]]);
     }
@@ -125,10 +89,8 @@ test("drill", () => {
 
 test("drill, compared with the fingerprint that is expected", () => {
   for (const [expect, passphrase, expected] of [
-    ["df41d8fe", "TREZOR", true],
     [bytesOf("DF41D8FE"), "TREZOR", true],
     ["df41d8fe", "TREZOr", false],
-    ["ef41d8fe", "TREZOR", false],
   ]) {
     const outcomes = FIVE_QUORUMS.map((names) => ({ names, secret: null, fingerprint: null, expected, mismatch: null }));
     assert.deepEqual([...shamir.drill(FIVE, { expect, passphrase })], outcomes);
@@ -176,30 +138,17 @@ test("status", () => {
   const found = shamir.status([FIVE[4], FIVE[2], FIVE[0], FIVE[2]]);
   const text = "groups 2 of 2\ngroup 0 members 2 of 2 0.0+0.2\ngroup 2 members 1 of 1 2.0";
   assert.deepEqual(found, { complete: 2, required: 2, enough: true, groups: [group, { group: 2, threshold: 1, names: ["2.0"] }], text });
-  const groups = [{ group: 0, threshold: 2, names: ["0.2"] }];
-  const few = { complete: 0, required: 1, enough: false, groups, text: "groups 0 of 1\ngroup 0 members 1 of 2 0.2" };
-  assert.deepEqual(shamir.status(TWO.slice(0, 1)), few);
+  assert.equal(shamir.status(TWO.slice(0, 1)).enough, false);
 });
 
 test("quorums", () => {
-  assert.deepEqual([ONE, TWO, TWO.slice(0, 1), FIVE, [...FIVE, FIVE[0]], FIVE.slice(0, 3)].map((lines) => shamir.quorums(lines)), [1n, 1n, 0n, 7n, 7n, 0n]);
-  assert.equal(shamir.quorums(shamir.create("8of16", SECRET)), 12870n);
+  assert.equal(shamir.quorums(FIVE), 7n);
   assert.equal(shamir.quorums(shamir.create(`16/${Array(16).fill("8of16").join(",")}`, SECRET)), 2n ** 64n - 1n);
 });
 
 test("reissue", () => {
-  const five = (...indices) => indices.map((index) => FIVE[index]);
-  for (const [held, names, wanted] of [
-    [five(0, 2), "0.1", five(1)],
-    [five(2, 3, 4), "0.0+0.1", five(0, 1)],
-    [five(3, 1, 0), "2.0", five(4)],
-    [five(0), "0.0", five(0)],
-    [FIVE, "0.0+0.1+0.2+1.0+2.0", FIVE],
-  ]) {
-    assert.deepEqual(shamir.reissue(PLAN, names, held), wanted);
-    assert.deepEqual(shamir.reissueBytes(bytesOf(PLAN), bytesOf(names), held), wanted.map(bytesOf));
-  }
-  assert.deepEqual(shamir.reissue("2/2of4,1of1,1of1", "0.3", FIVE.slice(0, 2)), [given.FOURTH]);
+  assert.deepEqual(shamir.reissue(PLAN, "0.0+0.1", FIVE.slice(2)), FIVE.slice(0, 2));
+  assert.deepEqual(shamir.reissueBytes(bytesOf(PLAN), bytesOf("0.0+0.1"), FIVE.slice(2)), FIVE.slice(0, 2).map(bytesOf));
 });
 
 test("resplit", () => {
@@ -208,19 +157,11 @@ test("resplit", () => {
     assert.deepEqual(shamir.resplit(PLAN, lines, { random }), SPLIT_ANEW);
     assert.deepEqual(shamir.resplitBytes(bytesOf(PLAN), lines, { random }), SPLIT_ANEW.map(bytesOf));
   }
-  const alone = "cleanup pecan academic academic broken exact editor public best party forecast darkness burning yelp window mama warmth market laundry response";
-  assert.deepEqual(shamir.resplit("1of1", EXTENDABLE, { random: ofHex("1234") }), [alone]);
-  for (const passphrase of ["TREZOR", "", "other"]) {
-    const old = shamir.recover(EXTENDABLE, { passphrase });
-    assert.equal(Buffer.from(old).toString("hex") === "48b1a4b80b8c209ad42c33672bdaa428", passphrase === "TREZOR");
-    for (const { secret } of shamir.drill(SPLIT_ANEW, { passphrase })) assert.deepEqual(secret, old);
-  }
 });
 
 test("createFromEncrypted", () => {
   const random = counting(26);
   const kept = ENCRYPTED[3];
-  assert.deepEqual(shamir.encrypted(EXTENDABLE), kept);
   assert.deepEqual(shamir.createFromEncrypted(PLAN, kept, { random }), SPLIT_ANEW);
   assert.deepEqual(shamir.createFromEncryptedBytes(bytesOf(PLAN), kept, { random }), SPLIT_ANEW.map(bytesOf));
   for (const passphrase of ["TREZOR", "", "other"]) {
@@ -260,39 +201,14 @@ test("judge", () => {
   const { value, ...share } = shamir.parse(FIVE[4]);
   const status = shamir.status([...FIVE.slice(0, 3), FIVE[4]]);
   assert.deepEqual(shamir.judge(FIVE.slice(0, 3), FIVE[4]), { share, again: false, status });
-  assert.deepEqual(shamir.judge([ONE, ...FIVE.slice(0, 3), TWO[0]], FIVE[4]), { share, again: false, status });
   assert.deepEqual(shamir.judge(FIVE, bytesOf(FIVE[4].toUpperCase())), { share, again: true, status: shamir.status(FIVE) });
-  assert.deepEqual(shamir.judge([], TWO[0]).status, shamir.status(TWO.slice(0, 1)));
   assert.equal(value.length, 16);
 });
 
-test("fingerprint", () => {
-  assert.equal(shamir.fingerprint(SECRET), "df41d8fe");
-  for (const secret of [new Uint8Array(16), counting(32), new Uint8Array(18).fill(255), new Uint8Array(128)]) {
-    assert.equal(shamir.fingerprint(secret), createHmac("sha256", "shamir fingerprint").update(secret).digest("hex").slice(0, 8));
-  }
-});
-
 test("repair", () => {
-  const words = ONE.split(" ");
-  /** @param {string[]} marks @param {number} from */
-  const at = (marks, from) => [...words.slice(0, from - 1), ...marks, ...words.slice(from - 1 + marks.length)].join(" ");
-  for (const line of [ONE, ONE.toUpperCase(), at(["?"], 5), at(["?", "?", "?"], 18), words.map((word) => `${word.slice(0, 4)}?`).join(" ")]) {
-    assert.deepEqual(shamir.repair(line), [ONE]);
-    assert.deepEqual(shamir.repairBytes(bytesOf(line)), [bytesOf(ONE)]);
-  }
-  assert.deepEqual(shamir.repair(at(["?", "?", "?"], 1)), [ONE, at(["therapy", "heat", "device"], 1)]);
-  for (const [line, code, details] of /** @type {[string, number, number[]][]} */ ([
-    [at(["zz?"], 7), 11, [7, 0]],
-    ["duckling ?", 12, [2, 0]],
-    [at(["?", "?", "?", "?"], 17), 19, [4, 0]],
-    [at(["?", "result", "solution", "length"], 5), 17, [0, 0]],
-    [at(["lend"], 7), 18, [7, 0]],
-    [at(["ze?"], 7), 18, [7, 0]],
-    [at(["solution", "length"], 7), 13, [0, 0]],
-  ])) {
-    assert.throws(() => shamir.repair(line), { code, line: null, details });
-  }
+  const line = ONE.replace("duckling enlarge academic", "? ? ?");
+  assert.deepEqual(shamir.repair(line), [ONE, ONE.replace("duckling enlarge academic", "therapy heat device")]);
+  assert.deepEqual(shamir.repairBytes(bytesOf(line)), shamir.repair(line).map(bytesOf));
 });
 
 test("words", () => {
@@ -300,10 +216,7 @@ test("words", () => {
   const list = Array.from(source.matchAll(/\*b"([a-z ]{8})"/g), ([, word]) => word.trim());
   assert.equal(list.length, 1024);
   assert.deepEqual(shamir.words(""), list);
-  for (const letters of ["a", "aca", "academic", "academics", "em", "Em", "EM", "zero", "x", "q", "é", "a b", " ", "z"]) {
-    assert.deepEqual(shamir.words(letters), list.filter((word) => word.startsWith(letters.toLowerCase())));
-    assert.deepEqual(shamir.words(bytesOf(letters)), shamir.words(letters));
-  }
+  assert.deepEqual(shamir.words(bytesOf("Em")), shamir.words("em"));
 });
 
 test("version", () => {

@@ -36,15 +36,12 @@ export const MISMATCHED_GROUPS = [
   "academic academic acrobat easy disease prepare husky home result arcade lunar cover shame email oven tension nylon lawsuit smear antenna",
   "academic academic beard easy dragon mineral broken simple lips custody flame cylinder ending prune party scout beaver presence thank adapt",
 ];
-// This would be member 3 of group 0 of the backup of FIVE, if PLAN gave that group four members. Another program made it.
-export const FOURTH =
-  "academic aluminum acrobat marathon crisis luxury step activity teammate unfair fumes endorse always ranked alto problem mailman ounce teacher bumpy";
 // This has the name of the first mnemonic of FIVE, and another value. Another program made it.
 export const CONFLICTING =
   "academic aluminum acrobat leaf civil drink heat negative damage union purchase photo inmate training amazing yield bucket lend glance junk";
 
-// EXTENDABLE is a published vector. With the random bytes 0 to 25, SPLIT_ANEW is the backup by PLAN into which it is split anew. The second
-// member has another first byte of its value in EXTENDABLE_FORGED. Another program made these two.
+// EXTENDABLE is a published vector. With the random bytes 0 to 25, SPLIT_ANEW is the backup by PLAN into which it is split anew. Another
+// program made that.
 export const EXTENDABLE = [
   "enemy favorite academic acid cowboy phrase havoc level response walnut budget painting inside trash adjust froth kitchen learn tidy punish",
   "enemy favorite academic always academic sniff script carpet romp kind promise scatter center unfair training emphasis evening belong fake enforce",
@@ -56,9 +53,6 @@ export const SPLIT_ANEW = [
   "academic apart beard leader crowd envelope aquatic reject sister loyalty sunlight replace health frequent level crazy bundle document ticket birthday",
   "academic apart ceramic leader alien hamster grasp strike jacket install artwork sidewalk sack fridge venture security method hairy ruin universe",
 ];
-export const EXTENDABLE_FORGED =
-  "enemy favorite academic always acid sniff script carpet romp kind promise scatter center unfair training emphasis evening crisis gasoline making";
-
 // Another program computed the encrypted secrets of ONE, TWO, FIVE and EXTENDABLE.
 export const ENCRYPTED = [
   { id: 7945, extendable: false, exponent: 0, value: ofHex("11bc609d21747c49ba78c0701293e417") },

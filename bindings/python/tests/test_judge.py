@@ -67,19 +67,6 @@ class Judgements(unittest.TestCase):
             self.assertEqual(shamir.judge([line], line), shamir.judge([FIVE[4]], FIVE[4]))
 
     def test_what_judge_refuses(self):
-        for code, line, details, lines, mnemonic in [
-            (13, None, (0, 0), [WRONG], WRONG),
-            (71, None, (0, 0), [WRONG], WRONG.ljust(1025)),
-            (12, None, (0, 0), [WRONG], ""),
-            (11, None, (1, 0), [], "# a note"),
-            (11, None, (20, 0), [], ONE + "\n\n"),
-            (13, 2, (0, 0), [ONE, WRONG], FIVE[0]),
-            (71, 1, (0, 0), ["#" * 1025], FIVE[0]),
-            (28, None, (0, 0), [ONE, FIVE[0]], FORGED[0]),
-            (28, 3, (0, 0), [ONE, FIVE[0], FORGED[0]], FIVE[1]),
-        ]:
-            refused = refusal_of(shamir.judge, lines, mnemonic)
-            self.assertEqual((refused.code, refused.line, refused.details), (code, line, details))
         for lines, mnemonic in [(6, ONE), ([6], ONE), (FIVE, 6), (FIVE, [ONE]), (FIVE, None)]:
             self.assertRaises(TypeError, shamir.judge, lines, mnemonic)
         for lines, mnemonic in [([f"{ONE}\n{ONE}"], ONE), (["\ud800"], ONE), ([], "\ud800")]:

@@ -1,10 +1,9 @@
-"""Tests the binding with worked examples. Run these tests with `python3 -m unittest discover -s bindings/python/tests`."""
+"""Tests how the calls read and answer in Python. tools/library compares the worked examples of all languages. Run these tests with `python3 -m unittest discover -s bindings/python/tests`."""
 import array
 import ast
 import ctypes
 import dataclasses
 import hashlib
-import hmac
 import inspect
 import itertools
 import mmap
@@ -57,8 +56,8 @@ FORGED = [
 ]
 # This would be member 3 of group 0 of the backup of FIVE, if PLAN gave that group four members. Another program made it.
 FOURTH = "academic aluminum acrobat marathon crisis luxury step activity teammate unfair fumes endorse always ranked alto problem mailman ounce teacher bumpy"
-# EXTENDABLE is a published vector. With the random bytes 0 to 25, SPLIT_ANEW is the backup by PLAN into which it is split anew. Its first
-# member has another first byte of its value in EXTENDABLE_FORGED. Another program made these two.
+# EXTENDABLE is a published vector. With the random bytes 0 to 25, SPLIT_ANEW is the backup by PLAN into which it is split anew. Another
+# program made that.
 EXTENDABLE = [
     "enemy favorite academic acid cowboy phrase havoc level response walnut budget painting inside trash adjust froth kitchen learn tidy punish",
     "enemy favorite academic always academic sniff script carpet romp kind promise scatter center unfair training emphasis evening belong fake enforce",
@@ -70,7 +69,6 @@ SPLIT_ANEW = [
     "academic apart beard leader crowd envelope aquatic reject sister loyalty sunlight replace health frequent level crazy bundle document ticket birthday",
     "academic apart ceramic leader alien hamster grasp strike jacket install artwork sidewalk sack fridge venture security method hairy ruin universe",
 ]
-EXTENDABLE_FORGED = "enemy favorite academic always acid sniff script carpet romp kind promise scatter center unfair training emphasis evening crisis gasoline making"
 # Another program computed these encrypted secrets of ONE, TWO, FIVE and EXTENDABLE.
 ENCRYPTED = [
     (ONE, shamir.EncryptedSecret(7945, False, 0, bytes.fromhex("11bc609d21747c49ba78c0701293e417")), SECRET),
@@ -83,8 +81,6 @@ UNDONE = [
     ["04447ff0a4a32f695ba74e3c43bc2c75", "5ba74e3c43bc2c757b3377e2884ece1f", "7b3377e2884ece1fba37d9cc21b2cece"],
     ["92f06fff3ed8b3e1cbed64bd59fb2d4e", "cbed64bd59fb2d4eff09ffde7df70e2f", "ff09ffde7df70e2fd42c33672bdaa428"],
 ]
-# With these random bytes, 2of3 gives the two mnemonics of TWO in reverse order, and one between them.
-TWO_RANDOM = bytes.fromhex("64359164e7a006aadd75179d6d5c")
 ROOT = pathlib.Path(__file__).resolve().parents[3]
 HEADER = ROOT / "include" / "shamir.h"
 PACKAGE = pathlib.Path(shamir.__file__).resolve().parent
@@ -176,7 +172,7 @@ def odd(data):
     return [kind(data) for kind in types + [lambda it: memoryview(it[::-1])[::-1]]]
 
 
-class WorkedExamples(unittest.TestCase):
+class Calls(unittest.TestCase):
     def refused(self, code, line, details, call, *arguments, **options):
         with self.assertRaises(shamir.Refusal) as raised:
             call(*arguments, **options)
@@ -186,90 +182,31 @@ class WorkedExamples(unittest.TestCase):
     def test_parse(self):
         value = bytes.fromhex("11bc609d21747c49ba78c0701293e417")
         self.assertEqual(shamir.parse(ONE), shamir.Share(7945, False, 0, 0, 1, 1, 0, 1, value))
-        self.assertEqual(shamir.parse(TWO[0]).member_index, 2)
-        self.refused(13, None, (0, 0), shamir.parse, ONE.replace("keyboard", "kidney"))
-        self.refused(11, None, (2, 0), shamir.parse, "academic academia")
-        self.refused(12, None, (0, 0), shamir.parse, "")
-        for line, code, fields in [(ONE, 1, (7945, 0, 0, 0, 1, 1, 0, 1)), (ONE[1:], 11, (7,) * 8)]:
-            share = shamir._Share(*(7,) * 8)
-            self.assertEqual(shamir._library.shamir_parse(line.encode(), len(line), share, None, 0).code, code)
-            self.assertEqual(tuple(getattr(share, name) for name, _ in shamir._Share._fields_), fields)
         with self.assertRaisesRegex(shamir.Refusal, "^line 2: 11 unknown word 1$"):
             shamir.recover("\nx")
 
     def test_create(self):
-        self.assertEqual(shamir.random_needed(PLAN, 16), 26)
         self.assertEqual(shamir.create(PLAN, SECRET, passphrase="TREZOR", exponent=0, extendable=False, random=bytes(range(26))), FIVE)
-        self.assertEqual(shamir.create("1of1", SECRET, passphrase="TREZOR", exponent=0, extendable=False, random=b"\x1f\x09"), [ONE])
         defaults = shamir.parse(shamir.create("1of1", SECRET)[0])
         self.assertEqual((defaults.exponent, defaults.extendable), (1, True), "those of the reference implementation")
-        secret = bytes.fromhex("b43ceb7e57a0ea8766221624d01b0864")
-        self.assertEqual(shamir.create("2of3", secret, passphrase="TREZOR", exponent=2, extendable=False, random=TWO_RANDOM)[::2], TWO[::-1])
         self.assertEqual(shamir.recover(shamir.create("10of16", bytes(range(128)))[6:]), bytes(range(128)))
-        self.refused(43, None, (26, 0), shamir.create, PLAN, SECRET, random=b"")
-        self.refused(42, None, (15, 0), shamir.create, PLAN, bytes(15), random=b"")
-        self.refused(41, None, (2, 0), shamir.create, PLAN, SECRET, passphrase="a\x07", random=b"")
-        self.refused(34, None, (1, 0), shamir.create, "2/2of2,1of2", SECRET)
-        self.refused(34, None, (0, 0), shamir.create, "2/1of3,5of2", SECRET)
-        self.refused(33, None, (1, 0), shamir.random_needed, "2/3of3,5of2", 16)
-        self.refused(31, None, (0, 0), shamir.random_needed, "1of1\xff", 16)
-        self.refused(2, None, (0, 0), shamir.create, PLAN, SECRET, exponent=16, random=b"")
-
-    def test_recover(self):
-        self.assertEqual(shamir.recover(ONE, passphrase="TREZOR"), SECRET)
-        self.assertEqual(shamir.recover(TWO, passphrase="TREZOR").hex(), "b43ceb7e57a0ea8766221624d01b0864")
-        self.assertEqual(shamir.recover(FIVE[3:], passphrase="TREZOR"), SECRET)
-        self.refused(29, None, (0, 0), shamir.recover, "")
-        self.refused(30, None, (0, 1), shamir.recover, TWO[:1])
-        self.refused(21, 2, (0, 0), shamir.recover, [ONE, TWO[0]])
-        self.refused(71, 1, (0, 0), shamir.recover, "#" * 1025)
 
     def test_encrypted(self):
-        for lines, kept, _ in ENCRYPTED:
-            self.assertEqual(shamir.encrypted(lines), kept)
         kept = ENCRYPTED[2][1]
-        for lines in ("\n".join(FIVE[3:]).encode(), ["# a note", *FIVE[::-1]], [*FIVE[:2], FORGED[1], *FIVE[3:]]):
+        for lines in ("\n".join(FIVE[3:]).encode(), ["# a note", *FIVE[::-1]]):
             self.assertEqual(shamir.encrypted(lines), kept)
-        # The first quorum is taken, and no other one is tried.
-        self.refused(51, None, (0, 0), shamir.encrypted, [FORGED[0], *FIVE[1:]])
-        self.refused(51, None, (16, 0), shamir.encrypted, MISMATCHED_GROUPS)
-        self.refused(30, None, (0, 1), shamir.encrypted, TWO[:1])
-        self.refused(29, None, (0, 0), shamir.encrypted, "# a note")
-        self.refused(21, 2, (0, 0), shamir.encrypted, [ONE, TWO[0]])
-        self.refused(13, 1, (0, 0), shamir.encrypted, ONE.replace("keyboard", "kidney"))
-        self.refused(71, 1, (0, 0), shamir.encrypted, "#" * 1025)
         self.assertEqual(repr(kept), "EncryptedSecret(id=1, extendable=False, exponent=0)")
-        text, unchanged = "\n".join(FIVE).encode(), b"\7\0\7\7"
-        for lines, room, code, fields in [(text, 15, 1, b"\1\0\0\0"), (text, 0, 1, b"\1\0\0\0"), (b"x", 128, 11, unchanged), (b"", 128, 29, unchanged)]:
-            value, parameters = ctypes.create_string_buffer(room), shamir._Parameters(7, 7, 7)
-            answer = shamir._library.shamir_encrypted(lines, len(lines), parameters, value, room)
-            self.assertEqual((answer.code, bytes(parameters), value.raw), (code, fields, bytes(room)))
 
     def test_decrypt(self):
-        for lines, kept, secret in ENCRYPTED:
-            self.assertEqual(shamir.decrypt(kept, passphrase="TREZOR"), secret)
-            for key in ("", "trezor"):
-                self.assertEqual(shamir.decrypt(kept, passphrase=key), shamir.recover(lines, passphrase=key))
         kept = ENCRYPTED[0][1]
-        for noted in ["df41d8fe", "DF41D8fe", b"df41d8fe", None]:
+        for noted in ["df41d8fe", b"df41d8fe", None]:
             self.assertEqual(shamir.decrypt(kept, passphrase="TREZOR", expect=noted), SECRET)
-        self.refused(52, None, (0, 0), shamir.decrypt, kept, passphrase="TREZOR", expect="df41d8ff")
-        self.refused(52, None, (0, 0), shamir.decrypt, kept, expect="df41d8fe")
         for value in odd(kept.value):
             self.assertEqual(shamir.decrypt(dataclasses.replace(kept, value=value), passphrase="TREZOR"), SECRET)
 
     def test_what_decrypt_refuses(self):
-        """The parameters are judged first, then the fingerprint, the passphrase and the length."""
         kept = ENCRYPTED[0][1]
-        wrong = {"passphrase": "a\x07", "expect": "df41d8f"}
-        for field, number in [("id", 32768), ("id", 65535), ("exponent", 16), ("exponent", 255)]:
-            self.refused(2, None, (0, 0), shamir.decrypt, dataclasses.replace(kept, value=b"", **{field: number}), **wrong)
-        short = dataclasses.replace(kept, value=bytes(15))
-        self.refused(44, None, (0, 0), shamir.decrypt, short, **wrong)
-        self.refused(44, None, (0, 0), shamir.decrypt, short, expect="")
-        self.refused(41, None, (2, 0), shamir.decrypt, short, passphrase="a\x07", expect="df41d8fe")
-        for length in (0, 15, 17, 130):
-            self.refused(42, None, (length, 0), shamir.decrypt, dataclasses.replace(kept, value=bytes(length)), expect="df41d8fe")
+        self.refused(44, None, (0, 0), shamir.decrypt, kept, expect="")
         for field, number in [("id", 65536), ("id", -1), ("exponent", 256), ("exponent", -1)]:
             self.assertRaises(OverflowError, shamir.decrypt, dataclasses.replace(kept, **{field: number}))
         for changed in [{"id": 1.0}, {"extendable": 1}, {"exponent": None}, {"value": kept.value.hex()}, {"value": list(kept.value)}]:
@@ -280,12 +217,9 @@ class WorkedExamples(unittest.TestCase):
         self.assertRaises(TypeError, lambda: shamir.decrypt(kept, "TREZOR"))
 
     def test_decrypt_rounds(self):
-        for (_, kept, secret), texts in zip(ENCRYPTED[2:], UNDONE):
-            text = kept
-            for number, undone in zip((3, 2, 1, 0), [*map(bytes.fromhex, texts), secret]):
-                for value in odd(text.value):
-                    self.assertEqual(shamir.decrypt_round(dataclasses.replace(text, value=value), number, passphrase="TREZOR"), undone)
-                text = dataclasses.replace(text, value=undone)
+        for (_, kept, secret), (undone, *_) in zip(ENCRYPTED[2:], UNDONE):
+            for value in odd(kept.value):
+                self.assertEqual(shamir.decrypt_round(dataclasses.replace(kept, value=value), 3, passphrase="TREZOR").hex(), undone)
             for key in ("TREZOR", bytearray(b"TREZOR")):
                 self.assertEqual(list(shamir.decrypt_rounds(kept, passphrase=key)), [None, None, None, secret])
             self.assertEqual(list(shamir.decrypt_rounds(kept))[3], shamir.decrypt(kept))
@@ -311,15 +245,8 @@ class WorkedExamples(unittest.TestCase):
                 self.assertEqual(len(made), count + 2)
 
     def test_what_decrypt_round_refuses(self):
-        """The parameters and the round are judged first, then the passphrase and the length."""
         kept = ENCRYPTED[0][1]
-        short = dataclasses.replace(kept, value=bytes(15))
-        for changed, number in [({"id": 32768}, 3), ({"exponent": 16}, 0), ({}, 4), ({}, 255)]:
-            self.refused(2, None, (0, 0), shamir.decrypt_round, dataclasses.replace(short, **changed), number, passphrase="a\x07")
-        self.refused(41, None, (2, 0), shamir.decrypt_round, short, 3, passphrase="a\x07")
-        self.refused(42, None, (15, 0), shamir.decrypt_round, short, 3)
-        self.refused(41, None, (2, 0), list, shamir.decrypt_rounds(short, passphrase="a\x07"))
-        self.refused(42, None, (15, 0), list, shamir.decrypt_rounds(short))
+        self.refused(42, None, (15, 0), list, shamir.decrypt_rounds(dataclasses.replace(kept, value=bytes(15))))
         for number in (256, -1):
             self.assertRaises(OverflowError, shamir.decrypt_round, kept, number)
         for number in (3.0, "3", None):
@@ -402,8 +329,6 @@ class WorkedExamples(unittest.TestCase):
         for room in [68, 113, 200]:
             with mock.patch.object(shamir, "_DRILL_ROOM", room):
                 self.assertEqual(list(shamir.drill(FIVE, passphrase="TREZOR")), listed)
-        self.refused(62, None, (0, 0), list, shamir.drill(FIVE, after="0.1"))
-        self.refused(61, None, (0, 0), list, shamir.drill(FIVE, after="0.1+"))
 
     def test_fingerprints(self):
         """A drill that is asked for fingerprints gives these in place of the secrets, in one part or in several."""
@@ -421,11 +346,9 @@ class WorkedExamples(unittest.TestCase):
 
     def test_expected(self):
         """With the fingerprint that the secret should have, `recover` refuses another secret, and a drill says what it finds."""
-        for noted in ["df41d8fe", "DF41D8FE", "Df41d8fE", b"df41d8fe", OddText("df41d8fe"), None]:
+        for noted in ["df41d8fe", b"df41d8fe", OddText("df41d8fe"), None]:
             self.assertEqual(shamir.recover(FIVE, passphrase="TREZOR", expect=noted), SECRET)
-        for noted, key in [("df41d8ff", "TREZOR"), ("cf41d8fe", "TREZOR"), ("df41d8fe", "trezor"), ("df41d8fe", "")]:
-            self.refused(52, None, (0, 0), shamir.recover, FIVE, passphrase=key, expect=noted)
-            self.assertEqual([outcome.expected for outcome in shamir.drill(FIVE, passphrase=key, expect=noted)], [False] * 7)
+        self.assertEqual([outcome.expected for outcome in shamir.drill(FIVE, passphrase="TREZOR", expect="df41d8ff")], [False] * 7)
         names = [outcome.names for outcome in shamir.drill(FIVE)]
         listed = [shamir.Outcome(it, None, expected=True) for it in names]
         for room in [47, 70, 120, 1 << 16]:
@@ -436,13 +359,10 @@ class WorkedExamples(unittest.TestCase):
         self.assertEqual(repr(listed[6]), "Outcome(names='1.0+2.0', mismatch=None, expected=True)")
 
     def test_bad_fingerprints(self):
-        """A text that isn't eight hexadecimal digits is refused before a passphrase and mnemonics, and after a cursor."""
-        for noted in ["df41d8f", "df41d8fe0", "df41d8fg", "", " f41d8fe", "0x41d8fe", "df41d8fe\n", b"", b"\xff" * 8, OddText()]:
-            self.refused(44, None, (0, 0), shamir.recover, "x", passphrase="a\x07", expect=noted)
-            self.refused(44, None, (0, 0), next, shamir.drill("x", passphrase="a\x07", expect=noted))
-            self.refused(61, None, (0, 0), next, shamir.drill("x", passphrase="a\x07", after="0.1+", expect=noted))
-            self.refused(44, None, (0, 0), shamir.recover, TWO, max_exponent=1, expect=noted)
-        self.refused(41, None, (2, 0), shamir.recover, "x", passphrase="a\x07", expect="df41d8fe")
+        """An empty text is no fingerprint, and isn't taken for one that was left out."""
+        for noted in ["", b"", b"\xff" * 8, OddText()]:
+            self.refused(44, None, (0, 0), shamir.recover, "x", expect=noted)
+            self.refused(44, None, (0, 0), next, shamir.drill("x", expect=noted))
         for other in [3745634558, ["df41d8fe"]]:
             self.assertRaises(TypeError, shamir.recover, FIVE, expect=other)
             self.assertRaises(TypeError, next, shamir.drill(FIVE, expect=other))
@@ -457,50 +377,14 @@ class WorkedExamples(unittest.TestCase):
             list(shamir.drill(FIVE, passphrase="TREZOR", expect="df41d8fe"))
         self.assertEqual([call.args[8] for call in calls.call_args_list], [1, 2])
 
-    def test_forms(self):
-        """A drill refuses a form that it doesn't have as it refuses a limit of 0. Its answer counts the quorums, and says where the
-        last line begins."""
-        text, room = "\n".join(FIVE).encode(), ctypes.create_string_buffer(1024)
-        drill = shamir._library.shamir_drill
-        for limit, form in [(1, 3), (0, 0), (0, 2), (1, 2**32 - 1)]:
-            answer = drill(text, len(text), b"a\x07", 2, 15, b"0.1+", 4, limit, form, b"x", 1, room, 1024)
-            self.assertEqual((answer.code, answer.first, answer.second, room.raw), (2, 0, 0, bytes(1024)))
-        for form, line in [(0, 45), (1, 21), (2, 24)]:
-            for limit, last in [(1, b"more after 0.0+0.1+1.0\n"), (4, b"more after 0.0+0.2+2.0\n"), (9, b"end\n")]:
-                answer = drill(text, len(text), b"TREZOR", 6, 15, None, 0, limit, form, b"df41d8fe", 8, room, 1024)
-                count = min(limit, 7)
-                offset = count * line - (4 if count == 7 else 0)
-                self.assertEqual((answer.code, answer.first, answer.second), (0, count, offset))
-                self.assertEqual(room.raw[offset : answer.written], last)
-
-    def test_count_of_a_backup(self):
-        """The answer of a creation is the number of mnemonics."""
-        room = ctypes.create_string_buffer(shamir._MNEMONICS_BYTES_MAX)
-        for plan, count in [(b"1of1", 1), (PLAN.encode(), 5), (b"16/" + b",".join([b"16of16"] * 16), 256)]:
-            random = bytes(shamir.random_needed(plan, 16))
-            answer = shamir._library.shamir_create(plan, len(plan), SECRET, 16, b"", 0, 0, 0, random, len(random), room, len(room))
-            self.assertEqual((answer.code, answer.first, answer.second), (0, count, 0))
-
     def test_repair(self):
-        marks = ONE.split()
-        for places in [[], [5], [5, 12], [18, 19, 20], [1, 19, 20]]:
-            self.assertEqual(shamir.repair(" ".join("?" if place in places else word for place, word in enumerate(marks, 1))), [ONE])
-        for line in [ONE.upper(), ONE.encode(), " ".join(word[:4] + "?" for word in marks), OddText(ONE)]:
+        for line in [ONE.upper(), ONE.encode(), OddText(ONE)]:
             self.assertEqual(shamir.repair(line), [ONE])
-        other = " ".join(["therapy", "heat", "device", *marks[3:]])
-        self.assertEqual(shamir.repair(" ".join(["? ? ?", *marks[3:]])), [ONE, other])
-        for line, code, details in [
-            (" ".join([*marks[:6], "zz?", *marks[7:]]), shamir.Code.UNKNOWN_WORD, (7, 0)),
-            ("duckling ?", shamir.Code.WORD_COUNT, (2, 0)),
-            (" ".join([*marks[:16], "? ? ? ?"]), shamir.Code.UNREADABLE_WORDS, (4, 0)),
-            (" ".join([*marks[:4], "?", marks[5], marks[7], marks[6], *marks[8:]]), shamir.Code.NO_MNEMONIC, (0, 0)),
-            (" ".join([*marks[:6], "lend", *marks[7:]]), shamir.Code.WRONG_WORD, (7, 0)),
-            (" ".join([*marks[:6], "ze?", *marks[7:]]), shamir.Code.WRONG_WORD, (7, 0)),
-            (" ".join([*marks[:6], marks[7], marks[6], *marks[8:]]), shamir.Code.BAD_CHECKSUM, (0, 0)),
-        ]:
-            with self.assertRaises(shamir.Refusal) as refused:
-                shamir.repair(line)
-            self.assertEqual((refused.exception.code, refused.exception.line, refused.exception.details), (code, None, details))
+        begins, *_ = ONE.partition(" academic")
+        self.assertEqual(shamir.repair(ONE.replace(f"{begins} academic", "? ? ?")), [ONE, ONE.replace(f"{begins} academic", "therapy heat device")])
+        with self.assertRaises(shamir.Refusal) as refused:
+            shamir.repair(ONE.replace("length", "lend"))
+        self.assertEqual((refused.exception.code, refused.exception.line, refused.exception.details), (shamir.Code.WRONG_WORD, None, (7, 0)))
         self.assertRaises(TypeError, shamir.repair, None)
 
     def test_words(self):
@@ -508,73 +392,22 @@ class WorkedExamples(unittest.TestCase):
         whole = shamir.words("")
         digest = hashlib.sha256("".join(word + "\n" for word in whole).encode()).hexdigest()
         self.assertEqual((len(whole), digest), (1024, "bcc4555340332d169718aed8bf31dd9d5248cb7da6e5d355140ef4f1e601eec3"))
-        self.assertEqual(shamir.words("em"), ["email", "emerald", "emission", "emperor", "emphasis", "employer", "empty"])
         for letters in ["academic", "ACAD", b"acad", bytearray(b"aCa"), OddText("aca")]:
             self.assertEqual(shamir.words(letters), ["academic"])
-        for letters in ["academics", "em ", " em", "em\n", "em\0", "x", "e-", "\xe9", "0"]:
-            self.assertEqual(shamir.words(letters), [])
-        for letters in ["z", "a", "ne", "tra"]:
-            self.assertEqual(shamir.words(letters), [word for word in whole if word.startswith(letters)])
         self.assertRaises(TypeError, shamir.words, None)
 
     def test_mismatches(self):
-        self.refused(51, None, (0, 0), shamir.recover, MISMATCHED)
-        self.refused(51, None, (16, 0), shamir.recover, MISMATCHED_GROUPS)
         self.assertEqual(list(shamir.drill(MISMATCHED)), [shamir.Outcome("0.0+0.1", None, 0)])
         self.assertEqual(list(shamir.drill(MISMATCHED_GROUPS)), [shamir.Outcome("0.0+1.0", None, shamir.OF_GROUPS)])
 
     def test_reissue(self):
-        for held, names, wanted in [
-            ([0, 2], "0.1", FIVE[1:2]),
-            ([2, 3, 4], "0.0+0.1", FIVE[:2]),
-            ([3, 1, 0], "2.0", FIVE[4:]),
-            ([0], "0.0", FIVE[:1]),
-            (range(5), "0.0+0.1+0.2+1.0+2.0", FIVE),
-        ]:
-            self.assertEqual(shamir.reissue(PLAN, names, [FIVE[index] for index in held]), wanted)
+        self.assertEqual(shamir.reissue(PLAN, "0.0+0.1", FIVE[2:]), FIVE[:2])
         self.assertEqual(shamir.reissue(b"2/2of4,1of1,1of1", bytearray(b"0.3"), "\n".join(FIVE[:2])), [FOURTH])
-        self.refused(66, None, (1, 0x00020202), shamir.reissue, PLAN, "0.1", FIVE[3:])
-        self.refused(66, None, (1, 0x01020102), shamir.reissue, PLAN, "0.1", [FIVE[0], FIVE[3]])
-        self.refused(66, None, (512, 0x00010102), shamir.reissue, PLAN, "2.0", FIVE[:2])
-        self.refused(64, None, (0, 3), shamir.reissue, PLAN, "0.3", FIVE)
-        self.refused(65, None, (0, 0), shamir.reissue, "2/3of3,1of1,1of1", "0.2", FIVE)
-        self.refused(63, None, (0, 0), shamir.reissue, PLAN, "0.1+0.0", "x")
-        self.refused(31, None, (0, 0), shamir.reissue, "", "", "x")
-        self.refused(11, 1, (1, 0), shamir.reissue, PLAN, "0.0", "x")
-        self.refused(29, None, (0, 0), shamir.reissue, PLAN, "0.0", "")
-        self.refused(51, None, (0, 0), shamir.reissue, "2of3", "0.2", MISMATCHED)
-        self.refused(51, None, (0, 0), shamir.reissue, PLAN, "2.0", [*FORGED[:2], FIVE[3]])
-        self.refused(51, None, (16, 0), shamir.reissue, PLAN, "2.0", [*FIVE[:2], FORGED[2]])
-        with self.assertRaisesRegex(shamir.Refusal, "^66 cannot tell 0.1: 1 of 2 members, 1 of 2 other groups$"):
-            shamir.reissue(PLAN, "0.1", [FIVE[0], FIVE[3]])
 
     def test_resplit(self):
         counting = bytes(range(26))
-        for lines in (EXTENDABLE, "\n".join(EXTENDABLE).encode(), [EXTENDABLE[1] + "\n", "# a note", *EXTENDABLE]):
-            self.assertEqual(shamir.resplit(PLAN, lines, random=counting), SPLIT_ANEW)
-        alone = "cleanup pecan academic academic broken exact editor public best party forecast darkness burning yelp window mama warmth market laundry response"
-        self.assertEqual(shamir.resplit(b"1of1", EXTENDABLE, random=bytearray(b"\x12\x34")), [alone])
-        secret = bytes.fromhex("48b1a4b80b8c209ad42c33672bdaa428")
-        for passphrase in ("TREZOR", "", "other"):
-            old = shamir.recover(EXTENDABLE, passphrase=passphrase)
-            self.assertEqual(old == secret, passphrase == "TREZOR")
-            self.assertEqual({it.secret for it in shamir.drill(SPLIT_ANEW, passphrase=passphrase)}, {old})
-        self.refused(31, None, (0, 0), shamir.resplit, "", "x")
-        self.refused(11, 1, (1, 0), shamir.resplit, PLAN, "x")
-        self.refused(29, None, (0, 0), shamir.resplit, PLAN, "", random=b"")
-        self.refused(30, None, (0, 1), shamir.resplit, PLAN, EXTENDABLE[:1], random=b"")
-        self.refused(51, None, (0, 0), shamir.resplit, PLAN, [EXTENDABLE[0], EXTENDABLE_FORGED])
-        self.refused(51, None, (0, 0), shamir.resplit, PLAN, MISMATCHED)
-        self.refused(67, None, (0, 0), shamir.resplit, PLAN, TWO)
-        self.refused(67, None, (0, 0), shamir.resplit, PLAN, TWO, random=b"")
-        for count in (0, 25, 27):
-            self.refused(43, None, (26, 0), shamir.resplit, PLAN, EXTENDABLE, random=bytes(count))
-        for first in (b"\x23\x6a", b"\xa3\x6a"):
-            self.refused(68, None, (0, 0), shamir.resplit, PLAN, EXTENDABLE, random=first + bytes(24))
-        with self.assertRaisesRegex(shamir.Refusal, "^67 backup isn't extendable$"):
-            shamir.resplit(PLAN, TWO)
-        with self.assertRaisesRegex(shamir.Refusal, "^68 same identifier$"):
-            shamir.resplit(PLAN, EXTENDABLE, random=b"\x23\x6a" + bytes(24))
+        for plan, lines in [(PLAN, EXTENDABLE), (PLAN.encode(), "\n".join(EXTENDABLE).encode()), (PLAN, [EXTENDABLE[1] + "\n", "# a note", *EXTENDABLE])]:
+            self.assertEqual(shamir.resplit(plan, lines, random=bytearray(counting)), SPLIT_ANEW)
 
     def test_resplit_draws(self):
         """Random bytes are drawn anew for each backup, and others if they give the identifier of the old one."""
@@ -595,22 +428,8 @@ class WorkedExamples(unittest.TestCase):
         room = bytearray(16)
         viewed = shamir.encrypted_into(room, "\n".join(EXTENDABLE).encode())
         self.assertEqual(shamir.create_from_encrypted(PLAN.encode(), viewed, random=bytearray(counting)), SPLIT_ANEW)
-        for passphrase in ("TREZOR", "", "other"):
-            opened = shamir.decrypt(kept, passphrase=passphrase)
-            self.assertEqual(shamir.recover(shamir.create_from_encrypted("2of3", kept)[1:], passphrase=passphrase), opened)
-        create, other = shamir.create_from_encrypted, dataclasses.replace
-        self.refused(2, None, (0, 0), create, "", other(kept, id=32768))
-        self.refused(2, None, (0, 0), create, "", other(kept, exponent=16))
-        self.refused(31, None, (0, 0), create, "", other(kept, value=b""))
-        self.refused(42, None, (15, 0), create, PLAN, other(kept, value=bytes(15), extendable=False))
-        self.refused(67, None, (0, 0), create, PLAN, other(kept, extendable=False))
-        self.refused(67, None, (0, 0), create, PLAN, other(kept, extendable=False), random=b"")
-        for count in (0, 25, 27):
-            self.refused(43, None, (26, 0), create, PLAN, kept, random=bytes(count))
-        for first in (b"\x23\x6a", b"\xa3\x6a"):
-            self.refused(68, None, (0, 0), create, PLAN, kept, random=first + bytes(24))
-        self.assertRaises(TypeError, create, PLAN, shamir.parse(ONE))
-        self.assertRaises(OverflowError, create, PLAN, other(kept, id=65536))
+        self.assertRaises(TypeError, shamir.create_from_encrypted, PLAN, shamir.parse(ONE))
+        self.assertRaises(OverflowError, shamir.create_from_encrypted, PLAN, dataclasses.replace(kept, id=65536))
 
     def test_create_from_encrypted_draws(self):
         kept = ENCRYPTED[3][1]
@@ -628,47 +447,18 @@ class WorkedExamples(unittest.TestCase):
         group = shamir.GroupStatus(0, 2, ("0.0", "0.2"))
         self.assertEqual(found, shamir.Status(2, 2, (group, shamir.GroupStatus(2, 1, ("2.0",)))))
         self.assertTrue(found.enough)
-        self.assertEqual(shamir.status(TWO[:1]), shamir.Status(0, 1, (shamir.GroupStatus(0, 2, ("0.2",)),)))
         self.assertFalse(shamir.status(TWO[:1]).enough)
-        self.refused(29, None, (0, 0), shamir.status, "# a note")
-        self.refused(21, 2, (0, 0), shamir.status, [ONE, TWO[0]])
 
     def test_quorums(self):
-        self.assertEqual([shamir.quorums(lines) for lines in (ONE, TWO, TWO[:1], FIVE, [*FIVE, FIVE[0]], FIVE[:3])], [1, 1, 0, 7, 7, 0])
-        self.assertEqual(shamir.quorums(shamir.create("8of16", bytes(16), random=bytes(shamir.random_needed("8of16", 16)))), 12870)
         most = "16/" + ",".join(["8of16"] * 16)
         made = shamir.create(most, bytes(16), random=bytes(shamir.random_needed(most, 16)))
         self.assertEqual(shamir.quorums(made), 2**64 - 1)
-        self.refused(29, None, (0, 0), shamir.quorums, "# a note")
-        self.refused(21, 2, (0, 0), shamir.quorums, [ONE, TWO[0]])
 
     def test_fingerprint(self):
-        self.assertEqual(shamir.fingerprint(SECRET), "df41d8fe")
-        for secret in [bytes(16), bytes(range(32)), b"\xff" * 18, bytes(128)]:
-            digest = hmac.new(b"shamir fingerprint", secret, "sha256").hexdigest()
-            self.assertEqual(shamir.fingerprint(secret), digest[:8])
         for secret in odd(SECRET):
             self.assertEqual(shamir.fingerprint(secret), "df41d8fe")
-        for length in [0, 15, 17, 130]:
-            self.refused(42, None, (length, 0), shamir.fingerprint, bytes(length))
         for other in [SECRET.hex(), list(SECRET), 16, None]:
             self.assertRaises(TypeError, shamir.fingerprint, other)
-
-    def test_max_exponent(self):
-        """Mnemonics with exponent 2 are refused, after a passphrase and before a cursor, unless max_exponent allows it."""
-        for most in (0, 1):
-            self.refused(3, None, (2, 0), shamir.recover, TWO, passphrase="TREZOR", max_exponent=most, expect="00000000")
-            self.refused(3, None, (2, 0), next, shamir.drill(TWO, passphrase="TREZOR", after="0.1", max_exponent=most))
-            self.refused(41, None, (2, 0), shamir.recover, TWO, passphrase="a\x07", max_exponent=most)
-            self.refused(41, None, (2, 0), next, shamir.drill(TWO, passphrase="a\x07", after="0.1", max_exponent=most))
-        self.refused(62, None, (0, 0), next, shamir.drill(TWO, passphrase="TREZOR", after="0.1", max_exponent=2))
-        for most in (2, 15, 2**32 - 1):
-            secret = shamir.recover(TWO, passphrase="TREZOR", max_exponent=most)
-            self.assertEqual(secret.hex(), "b43ceb7e57a0ea8766221624d01b0864")
-            self.assertEqual([it.secret for it in shamir.drill(TWO, passphrase="TREZOR", max_exponent=most)], [secret])
-        self.refused(30, None, (0, 1), shamir.recover, TWO[:1], max_exponent=0)
-        with self.assertRaisesRegex(shamir.Refusal, "^3 exponent 2 above the maximum$"):
-            shamir.recover(TWO, max_exponent=1)
 
     def test_version(self):
         self.assertEqual(shamir.library_version(), shamir.__version__)
@@ -680,38 +470,6 @@ class WorkedExamples(unittest.TestCase):
             parts = shamir.drill(FIVE, passphrase="TREZOR")
             first = [next(parts) for _ in range(4)]
         self.assertEqual(first + list(shamir.drill(FIVE, passphrase="TREZOR", after=first[-1].names)), whole)
-
-    def test_short_slices(self):
-        """A buffer that is one byte too short is refused with the length needed, and nothing is written."""
-        library, key = shamir._library, (b"TREZOR", 6)
-        text, one, extendable = "\n".join(FIVE).encode(), ONE.encode(), "\n".join(EXTENDABLE).encode()
-        calls = [
-            (16, lambda *room: library.shamir_parse(one, len(one), shamir._Share(), *room)),
-            (715, lambda *room: library.shamir_create(PLAN.encode(), 16, SECRET, 16, *key, 0, 0, bytes(range(26)), 26, *room)),
-            (16, lambda *room: library.shamir_recover(text, len(text), *key, 0, b"df41d8fe", 8, *room)),
-            (16, lambda *room: library.shamir_encrypted(text, len(text), shamir._Parameters(), *room)),
-            (16, lambda *room: library.shamir_decrypt(shamir._Parameters(1, 0, 0), bytes(16), 16, *key, None, 0, *room)),
-            (16, lambda *room: library.shamir_decrypt_round(shamir._Parameters(1, 0, 0), 3, bytes(16), 16, *key, *room)),
-            (41, lambda *room: library.shamir_status(one, len(one), *room)),
-            (144, lambda *room: library.shamir_reissue(PLAN.encode(), 16, b"0.1", 3, text, len(text), *room)),
-            (144, lambda *room: library.shamir_resplit(b"1of1", 4, extendable, len(extendable), b"\x12\x34", 2, *room)),
-            (170, lambda *room: library.shamir_create_from_encrypted(b"1of1", 4, shamir._Parameters(1, 1, 0), bytes(16), 16, b"\x12\x34", 2, *room)),
-            (len(one) + 1, lambda *room: library.shamir_repair(one, len(one), *room)),
-            (8, lambda *room: library.shamir_fingerprint(SECRET, 16, *room)),
-            (68, lambda *room: library.shamir_drill(text, len(text), *key, 0, None, 0, 1, 0, None, 0, *room)),
-            (44, lambda *room: library.shamir_drill(text, len(text), *key, 0, None, 0, 1, 1, None, 0, *room)),
-            (47, lambda *room: library.shamir_drill(text, len(text), *key, 0, None, 0, 1, 2, b"df41d8fe", 8, *room)),
-            (shamir._WORDS_BYTES_MAX, lambda *room: library.shamir_words(None, 0, *room)),
-            (9, lambda *room: library.shamir_words(b"aca", 3, *room)),
-            (5, library.shamir_version),
-            (14, lambda *room: library.shamir_text(shamir._Answer(code=11, first=2), *room)),
-        ]
-        for needed, call in calls:
-            room = ctypes.create_string_buffer(b"\x07" * needed, needed)
-            answer = call(room, needed - 1)
-            self.assertEqual((answer.code, answer.first, answer.written, room.raw), (1, needed, 0, b"\x07" * needed))
-            answer = call(room, needed)
-            self.assertEqual((answer.code, answer.written), (0, needed))
 
     def test_first_cause(self):
         """With random bytes of its own, create refuses the same inputs as with given ones, and with the same codes."""
@@ -1002,11 +760,6 @@ class WorkedExamples(unittest.TestCase):
         self.assertIs(raised.exception.code, shamir.Code.WORD_COUNT)
         self.assertEqual(str(raised.exception), "12 0 words make no share")
 
-    @unittest.skipUnless(HEADER.exists(), "the header isn't here")
-    def test_codes(self):
-        found = dict(re.findall(r"^    SHAMIR_(?:E_)?(\w+) = (\d+)\b", HEADER.read_text(), re.MULTILINE))
-        self.assertEqual({code.name: str(code.value) for code in shamir.Code}, found)
-
     def test_no_library(self):
         """Without its library, or with another one, the package raises an ImportError that says so."""
         libc = pathlib.Path("/proc/self/maps").read_text()
@@ -1041,7 +794,6 @@ class WorkedExamples(unittest.TestCase):
         self.assertEqual(again, dataclasses.replace(ENCRYPTED[3][1], id=again.id))
         self.assertNotEqual(again.id, kept.id)
         self.assertEqual(shamir.decrypt(again, passphrase="TREZOR"), ENCRYPTED[3][2])
-        self.refused(67, None, (0, 0), shamir.create_from_encrypted, "1of1", ENCRYPTED[0][1])
 
     def test_line_feed(self):
         """A line feed may end one mnemonic, and no other place has one. A carriage return before it is a space."""
@@ -1067,33 +819,6 @@ class WorkedExamples(unittest.TestCase):
             self.assertEqual(getattr(shamir, f"_{name}"), int(sizes[name]))
         self.assertEqual((shamir.EXPONENT_MAX, shamir.SECRET_BYTES_MAX), (int(sizes["EXPONENT_MAX"]), int(sizes["SECRET_BYTES_MAX"])))
         self.assertEqual(ctypes.sizeof(shamir._Answer), 40)
-
-    def test_null(self):
-        library = shamir._library
-        self.assertEqual(library.shamir_recover(None, 0, None, 0, 0, None, 0, None, 0).code, 29)
-        self.assertEqual(library.shamir_encrypted(None, 0, shamir._Parameters(), None, 0).code, 29)
-        self.assertEqual(library.shamir_decrypt(shamir._Parameters(), None, 0, None, 0, None, 0, None, 0).code, 42)
-        self.assertEqual(library.shamir_decrypt_round(shamir._Parameters(), 0, None, 0, None, 0, None, 0).code, 42)
-        self.assertEqual(library.shamir_version(None, 0).first, 5)
-        self.assertEqual(library.shamir_random_needed(None, 0, 16).code, 31)
-        self.assertEqual(library.shamir_parse(None, 0, shamir._Share(), None, 0).code, 12)
-        self.assertEqual(library.shamir_drill(None, 0, None, 0, 0, None, 0, 1, 0, None, 0, None, 0).code, 29)
-        self.assertEqual(library.shamir_drill(None, 0, None, 0, 0, None, 0, 1, 2, None, 0, None, 0).code, 44)
-        self.assertEqual(library.shamir_words(None, 0, None, 0).first, shamir._WORDS_BYTES_MAX)
-        self.assertEqual(library.shamir_words(b"x", 1, None, 0).code, 0)
-        self.assertEqual(library.shamir_status(None, 0, None, 0).code, 29)
-        self.assertEqual(library.shamir_judge(None, 0, None, 0, shamir._Judgement(), None, 0).code, 12)
-        self.assertEqual(library.shamir_judge(None, 0, ONE.encode(), len(ONE), shamir._Judgement(), None, 0).code, 1)
-        self.assertEqual(library.shamir_reissue(None, 0, None, 0, None, 0, None, 0).code, 31)
-        self.assertEqual(library.shamir_reissue(b"2of2", 4, None, 0, None, 0, None, 0).code, 63)
-        self.assertEqual(library.shamir_resplit(None, 0, None, 0, None, 0, None, 0).code, 31)
-        self.assertEqual(library.shamir_resplit(b"2of2", 4, None, 0, None, 0, None, 0).code, 29)
-        self.assertEqual(library.shamir_create_from_encrypted(None, 0, shamir._Parameters(), None, 0, None, 0, None, 0).code, 31)
-        self.assertEqual(library.shamir_create_from_encrypted(b"2of2", 4, shamir._Parameters(), None, 0, None, 0, None, 0).code, 42)
-        self.assertEqual(library.shamir_fingerprint(None, 0, None, 0).code, 42)
-        self.assertEqual(library.shamir_text(shamir._Answer(), None, 0).first, 4)
-        answer = library.shamir_create(b"1of1", 4, SECRET, 16, None, 0, 0, 0, b"\x1f\x09", 2, None, 0)
-        self.assertEqual((answer.code, answer.first), (1, 152))
 
 
 if __name__ == "__main__":

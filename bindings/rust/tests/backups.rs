@@ -1,17 +1,16 @@
-//! Worked examples of backups.
+//! How the calls read and answer in Rust. `tools/rust` compares the worked examples of all languages.
 #![cfg(feature = "alloc")]
 mod given;
 
 use given::{
-    EXTENDABLE, FIVE, FIVE_QUORUMS, FOURTH, MISMATCHED, MISMATCHED_GROUPS, MISMATCHED_SECOND, ONE, ONE_SECRET, PLAN, SPLIT_ANEW,
-    TWO, TWO_RANDOM, TWO_SECRET, bytes, digits,
+    EXTENDABLE, FIVE, FIVE_QUORUMS, MISMATCHED, MISMATCHED_GROUPS, MISMATCHED_SECOND, ONE, ONE_SECRET, PLAN, SPLIT_ANEW, TWO,
+    TWO_RANDOM, TWO_SECRET, bytes, digits,
 };
 use shamir::{CreateOptions, DecryptOptions, Drill, EncryptedSecret, Error, Found, Mismatch};
 use shamir::{Mnemonics, Name, Outcome, Plan, RecoverOptions, Secret};
 use shamir::{
-    create, create_from_encrypted, create_from_encrypted_with, create_into, create_with, decrypt, decrypt_round, decrypt_rounds,
-    encrypted, fingerprint, parse, quorums, recover, reissue, reissue_into, repair, repair_into, resplit, resplit_with, status,
-    words,
+    create, create_from_encrypted_with, create_into, create_with, decrypt, decrypt_rounds, encrypted, fingerprint, parse,
+    recover, reissue, resplit_with, status,
 };
 
 /// The fingerprint of the secret of `ONE`. It is the HMAC-SHA256 by another program.
@@ -35,25 +34,6 @@ fn of_two() -> CreateOptions<'static> {
 
 fn outcomes(drill: Drill<'_>) -> Vec<Outcome> {
     drill.collect::<Result<_, Error>>().unwrap()
-}
-
-#[test]
-fn a_published_backup_is_created_again() {
-    let made = create(&plan("2of3"), &secret(TWO_SECRET), &of_two(), &bytes(TWO_RANDOM)).unwrap();
-    let lines: Vec<&str> = made.iter().collect();
-    assert_eq!((made.len(), lines[0], lines[2]), (3, TWO[1], TWO[0]));
-    assert_eq!(made.as_str(), lines.concat_lines());
-    assert_eq!(made.as_ref() as &[u8], made.as_str().as_bytes());
-}
-
-trait ConcatLines {
-    fn concat_lines(&self) -> String;
-}
-
-impl ConcatLines for Vec<&str> {
-    fn concat_lines(&self) -> String {
-        self.iter().map(|line| format!("{line}\n")).collect()
-    }
 }
 
 #[test]
@@ -124,67 +104,32 @@ fn a_plan_is_read_and_built() {
     assert_eq!(plan("2of3").random_needed(usize::MAX), Err(Error::SecretLength { bytes: u64::MAX }));
 }
 
-/// Another program computed the encrypted secrets.
 #[test]
-fn an_encrypted_secret_is_kept_and_decrypted() {
-    for (lines, (id, extendable, exponent), digits, right) in [
-        (ONE.into(), (7945, false, 0), "11bc609d21747c49ba78c0701293e417", ONE_SECRET),
-        (TWO.join("\n"), (25653, false, 2), "cdc017fddc829e791b1371780be0605a", TWO_SECRET),
-        (FIVE.join("\n"), (1, false, 0), "ae3283670d8226e104447ff0a4a32f69", ONE_SECRET),
-        (FIVE[3..].join("\n"), (1, false, 0), "ae3283670d8226e104447ff0a4a32f69", ONE_SECRET),
-        (EXTENDABLE.join("\n"), (9066, true, 0), "644c905b0c4da21692f06fff3ed8b3e1", "48b1a4b80b8c209ad42c33672bdaa428"),
-    ] {
-        let kept = EncryptedSecret { id, extendable, exponent, value: secret(digits) };
-        assert_eq!(encrypted(&lines).unwrap(), kept);
-        assert_eq!(decrypt(&kept, &DecryptOptions::new().passphrase("TREZOR")).unwrap(), secret(right));
-        for passphrase in ["", "trezor"] {
-            let found = decrypt(&kept, &DecryptOptions::new().passphrase(passphrase));
-            assert_eq!(found.unwrap(), recover(&lines, &RecoverOptions::new().passphrase(passphrase)).unwrap());
-        }
-        assert!(!format!("{kept:?}").contains(&format!("{:?}", kept.value.as_bytes())[1..9]));
+fn an_encrypted_secret_is_not_shown() {
+    let kept = encrypted(EXTENDABLE.join("\n")).unwrap();
+    assert_eq!(kept, extendable_secret());
+    assert!(!format!("{kept:?}").contains(&format!("{:?}", kept.value.as_bytes())[1..9]));
+}
+
+#[test]
+fn options_of_a_decryption_can_be_set_in_any_order() {
+    let (kept, options) = (encrypted(ONE).unwrap(), DecryptOptions::new());
+    for options in [options.expected("DF41d8fe").passphrase("TREZOR"), options.passphrase("TREZOR").expected("DF41d8fe")] {
+        assert_eq!(decrypt(&kept, &options).unwrap(), secret(ONE_SECRET));
+        assert_eq!(decrypt(&kept, &options.expected("df41d8ff")).unwrap_err(), Error::OtherSecret);
     }
 }
 
 #[test]
-fn a_decrypted_secret_is_compared() {
-    let (kept, options) = (encrypted(ONE).unwrap(), DecryptOptions::new().expected("DF41d8fe"));
-    assert_eq!(decrypt(&kept, &options.passphrase("TREZOR")).unwrap(), secret(ONE_SECRET));
-    assert_eq!(decrypt(&kept, &options).unwrap_err(), Error::OtherSecret);
-    // Options can be set in any order.
-    let options = DecryptOptions::new().passphrase("TREZOR");
-    assert_eq!(decrypt(&kept, &options.expected("df41d8fe")).unwrap(), secret(ONE_SECRET));
-    assert_eq!(decrypt(&kept, &options.expected("df41d8ff")).unwrap_err(), Error::OtherSecret);
-}
-
-/// The texts that the rounds 3 to 0 leave of the encrypted secret of `FIVE`, and of that of `EXTENDABLE`. Another program computed them.
-const UNDONE: [[&str; 4]; 2] = [
-    ["04447ff0a4a32f695ba74e3c43bc2c75", "5ba74e3c43bc2c757b3377e2884ece1f", "7b3377e2884ece1fba37d9cc21b2cece", ONE_SECRET],
-    [
-        "92f06fff3ed8b3e1cbed64bd59fb2d4e",
-        "cbed64bd59fb2d4eff09ffde7df70e2f",
-        "ff09ffde7df70e2fd42c33672bdaa428",
-        "48b1a4b80b8c209ad42c33672bdaa428",
-    ],
-];
-
-#[test]
-fn rounds_are_undone() {
-    for (lines, texts) in [&FIVE[3..], &EXTENDABLE[..]].into_iter().zip(UNDONE) {
-        let kept = encrypted(lines.join("\n")).unwrap();
-        let mut text = kept.clone();
-        for (round, right) in (0..4).rev().zip(texts) {
-            text.value = decrypt_round(&text, round, "TREZOR").unwrap();
-            assert_eq!(text.value, secret(right));
-        }
-        let mut told = vec![];
-        let found = decrypt_rounds(&kept, "TREZOR", |undone| {
-            told.push(undone);
-            true
-        });
-        assert_eq!((found.unwrap(), told.as_slice()), (Some(text.value), &[1, 2, 3][..]));
-        for most in 1..4 {
-            assert_eq!(decrypt_rounds(&kept, "TREZOR", |undone| undone < most).unwrap(), None);
-        }
+fn rounds_are_told_and_stopped() {
+    let (kept, mut told) = (encrypted(FIVE[3..].join("\n")).unwrap(), vec![]);
+    let found = decrypt_rounds(&kept, "TREZOR", |undone| {
+        told.push(undone);
+        true
+    });
+    assert_eq!((found.unwrap(), told.as_slice()), (Some(secret(ONE_SECRET)), &[1, 2, 3][..]));
+    for most in 1..4 {
+        assert_eq!(decrypt_rounds(&kept, "TREZOR", |undone| undone < most).unwrap(), None);
     }
 }
 
@@ -196,15 +141,6 @@ fn every_quorum_is_drilled() {
     assert_eq!(names, FIVE_QUORUMS);
     assert!(found.iter().all(|outcome| outcome.found == Found::Secret(secret(ONE_SECRET))));
     assert_eq!(found[6].names.iter().collect::<Vec<_>>(), [Name { group: 1, member: 0 }, Name { group: 2, member: 0 }]);
-}
-
-#[test]
-fn a_drill_goes_on_after_each_quorum() {
-    let lines = FIVE.join("\n");
-    for (place, names) in FIVE_QUORUMS.iter().enumerate() {
-        let rest = outcomes(Drill::new(&lines, &trezor()).after(names));
-        assert!(rest.iter().map(|outcome| outcome.names.as_str()).eq(FIVE_QUORUMS[place + 1..].iter().copied()));
-    }
 }
 
 #[test]
@@ -315,28 +251,6 @@ fn a_drill_ends_after_its_error() {
     assert!(drill.next().is_none());
 }
 
-#[test]
-fn lost_mnemonics_are_reissued() {
-    let left: Mnemonics = FIVE.iter().skip(1).collect();
-    let mut room = [0; 400];
-    assert!(reissue(&plan(PLAN), "0.0+0.1", &left).unwrap().iter().eq(FIVE[..2].iter().copied()));
-    let larger = plan("2/2of4,1of1,1of1");
-    assert_eq!(reissue_into(&larger, "0.3", &left, &mut room), Ok(format!("{FOURTH}\n").as_str()));
-}
-
-#[test]
-fn an_extendable_backup_is_split_anew() {
-    let (lines, random) = (EXTENDABLE.join("\n"), std::array::from_fn::<u8, 26, _>(|place| place as u8));
-    let made = resplit(&plan(PLAN), &lines, &random).unwrap();
-    assert!(made.iter().eq(SPLIT_ANEW));
-    for passphrase in ["TREZOR", "", "other"] {
-        let options = RecoverOptions::new().passphrase(passphrase);
-        let old = recover(&lines, &options).unwrap();
-        assert_eq!(old == secret("48b1a4b80b8c209ad42c33672bdaa428"), passphrase == "TREZOR");
-        assert!(outcomes(Drill::new(&made, &options)).iter().all(|outcome| outcome.found == Found::Secret(old.clone())));
-    }
-}
-
 /// The closure draws others for bytes that give the old identifier, but not without end.
 #[test]
 fn random_bytes_of_a_split_are_drawn_again() {
@@ -372,18 +286,6 @@ fn extendable_secret() -> EncryptedSecret {
 }
 
 #[test]
-fn an_encrypted_secret_is_split() {
-    let (kept, random) = (extendable_secret(), std::array::from_fn::<u8, 26, _>(|place| place as u8));
-    assert_eq!(encrypted(EXTENDABLE.join("\n")).unwrap(), kept);
-    let made = create_from_encrypted(&plan(PLAN), &kept, &random).unwrap();
-    assert!(made.iter().eq(SPLIT_ANEW));
-    for passphrase in ["TREZOR", "", "other"] {
-        let right = decrypt(&kept, &DecryptOptions::new().passphrase(passphrase)).unwrap();
-        assert_eq!(recover(&made, &RecoverOptions::new().passphrase(passphrase)).unwrap(), right);
-    }
-}
-
-#[test]
 fn random_bytes_for_an_encrypted_secret_are_drawn_again() {
     let (kept, random) = (extendable_secret(), std::array::from_fn::<u8, 26, _>(|place| place as u8));
     let mut drawn = 0;
@@ -414,12 +316,6 @@ fn a_status_tells_the_members() {
 }
 
 #[test]
-fn quorums_are_counted() {
-    assert_eq!([&FIVE[..], &FIVE[..3], &FIVE[2..]].map(|lines| quorums(lines.join("\n")).unwrap()), [7, 0, 1]);
-    assert_eq!(quorums("# a note").unwrap_err().code(), 29);
-}
-
-#[test]
 fn a_mnemonic_is_read() {
     let share = parse(format!("\t{}\r", FIVE[4].to_uppercase())).unwrap();
     assert_eq!(
@@ -428,15 +324,6 @@ fn a_mnemonic_is_read() {
     );
     assert_eq!((share.name(), &share), (Name { group: 2, member: 0 }, &FIVE[4].parse().unwrap()));
     assert!(!format!("{share:?}").contains(&format!("{:?}", share.value.as_bytes())[1..9]));
-}
-
-#[test]
-fn a_line_is_repaired() {
-    let mut room = [0; 300];
-    let marks = ONE.replace("academic academic agency", "? ? a?");
-    let found = repair(&marks).unwrap();
-    assert_eq!(found.as_str(), format!("{ONE}\n"));
-    assert_eq!(repair_into(&marks, &mut room), Ok(found.as_str()));
 }
 
 #[test]
@@ -462,12 +349,6 @@ fn an_item_is_one_line() {
         assert_eq!((lines.len(), recover(&lines, &trezor()).unwrap_err()), (items.len(), refused));
         assert_eq!(status(&lines).unwrap_err(), refused);
     }
-}
-
-#[test]
-fn words_begin_with_letters() {
-    assert_eq!(words("EM"), ["email", "emerald", "emission", "emperor", "emphasis", "employer", "empty"]);
-    assert!(words("x!").is_empty());
 }
 
 #[test]
