@@ -15,7 +15,7 @@ use s39_set::{SetLack, ShareSet, quorum_count_of};
 /// `first` of the answer is how many quorums a drill of these lines lists, or 2^64 - 1 if there are more. If the
 /// mnemonics have none, `first` is 0 and the code is still 0.
 ///
-/// The call refuses with the first of these that applies: the code of the first refused line (11 to 28, 71), 29 (there
+/// The call refuses with the first of these that applies: the code of the first refused line (11 to 15, 21 to 28, 71), 29 (there
 /// is no mnemonic).
 ///
 /// ```c

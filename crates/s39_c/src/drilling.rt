@@ -36,7 +36,7 @@ use s39_set::{Quorum, ShareSet, parse_quorum};
 ///
 /// - 2 (a limit of 0, or a form above 2), 61 (`after` isn't a list of names), 44 (the form is 2, and `expected` isn't a
 ///   fingerprint), 41 (the passphrase);
-/// - the code of the first refused line (11 to 28, 71), then 29, 30;
+/// - the code of the first refused line (11 to 15, 21 to 28, 71), then 29, 30;
 /// - 3, if the exponent of the mnemonics is above `max_exponent`; the call then derives no key;
 /// - 62 (the names aren't those of a quorum);
 /// - 1, if `text` is too short for one quorum, or for `end` if no quorum is left.

@@ -28,7 +28,7 @@ pub struct ShamirParameters {
 ///
 /// The call refuses with the first of these that applies, and `encrypted` is then unchanged. So is `parameters`, except at 1:
 ///
-/// - the code of the first refused line (11 to 28, 71), then 29, 30;
+/// - the code of the first refused line (11 to 15, 21 to 28, 71), then 29, 30;
 /// - 51 (a digest mismatch in the first quorum);
 /// - 1, if `encrypted` is too short.
 ///

@@ -20,7 +20,7 @@ use s39_set::{Quorum, parse_names};
 /// The call refuses with the first of these that applies, and `mnemonics` is then unchanged:
 ///
 /// - 31 to 34 (the plan), 63 (`names` isn't a list of names), 64 (a name isn't in the plan);
-/// - the code of the first refused line (11 to 28, 71), then 29, 65 (the mnemonics are of another plan);
+/// - the code of the first refused line (11 to 15, 21 to 28, 71), then 29, 65 (the mnemonics are of another plan);
 /// - for each name in turn, 66 (its mnemonic isn't determined) or 51 (a digest mismatch);
 /// - 1, if `mnemonics` is too short.
 ///

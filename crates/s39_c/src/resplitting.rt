@@ -23,7 +23,7 @@ use s39_creating::resplit_lines;
 ///
 /// The call refuses with the first of these that applies, and `mnemonics` is then unchanged:
 ///
-/// - 31 to 34 (the plan), then the code of the first refused line (11 to 28, 71), then 29, 30;
+/// - 31 to 34 (the plan), then the code of the first refused line (11 to 15, 21 to 28, 71), then 29, 30;
 /// - 51 (a digest mismatch in the first quorum), 67 (the old backup isn't extendable);
 /// - 43 (the random bytes), with the number needed, 68 (they give the identifier of the old backup);
 /// - 1, if `mnemonics` is too short.

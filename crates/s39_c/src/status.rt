@@ -16,7 +16,7 @@ use s39_reading::status_lines;
 /// mnemonics have a quorum if and only if `first` is at least `second`. If they have none, the code is still 0.
 ///
 /// The call refuses with the first of these that applies, and `text` is then unchanged: the code of the first refused
-/// line (11 to 28, 71), 29 (there is no mnemonic), 1 (`text` is too short).
+/// line (11 to 15, 21 to 28, 71), 29 (there is no mnemonic), 1 (`text` is too short).
 ///
 /// ```c
 /// char text[SHAMIR_STATUS_BYTES_MAX];

@@ -50,9 +50,7 @@ impl From<OtherName> for Fault {
 /// The first error that applies is returned, and then nothing is written:
 ///
 /// - `NotInPlan` with the first name that the plan doesn't have, before anything is read;
-/// - the first refused line, with its number: a word error, `TooLong` if it has more than 1,024 bytes, or `Set` if its
-///   share can't join those of the lines before it;
-/// - `Device(Read)` if a read fails; an unfinished line is then dropped, unless it is too long already;
+/// - what `s39_input::read_set` refuses: a line, or a failed read;
 /// - `Lack` if there are no shares;
 /// - `OtherPlan` if no backup of the plan can have all shares: their group threshold or number of groups differs, or
 ///   the plan doesn't have a share's name, or has it with another member threshold;

@@ -50,13 +50,13 @@ impl TakeLine for ShareSet {
         (long_is_refused Word line (reading line) long) };
 }
 
-/// The set of the shares of an input, each once, if the passphrase is printable. The passphrase is judged before
-/// anything is read.
+/// The set of the shares of an input, each once, if the passphrase is printable. The first error that applies is
+/// returned:
 ///
-/// Blank lines are skipped, and so are lines whose first byte that isn't a separator is `#`. The first refused line
-/// ends the run, and the fault has its number and the cause: a word error, `TooLong` (more than 1,024 bytes), or `Set`
-/// if its share can't join those of the lines before it. If a read fails, the fault says so. The caller keeps
-/// `failures()` below `u64::MAX`.
+/// - `Passphrase` if a byte of the passphrase isn't printable ASCII, before anything is read;
+/// - what `read_set` refuses.
+///
+/// The caller keeps `failures()` below `u64::MAX`.
 pub fn checked_set<R: Read>(passphrase: &[u8], input: &mut Counting<R>) -> Result<ShareSet, Fault>
     requires { input.old.failures < u64.MAX }
     ensures checked { OfInput R.remaining input.old input.new
@@ -82,8 +82,14 @@ pub fn checked_set_in(passphrase: &[u8], lines: &[u8]) -> Result<ShareSet, Fault
     Ok(set_in(lines)?)
 }
 
-/// The set of the shares of an input, each once, or the first line that is refused, or a failed read. The caller keeps
-/// `failures()` below `u64::MAX`.
+/// The set of the shares of an input, each once. Blank lines and comments are skipped. A comment starts with `#`, after
+/// any spaces, tabs and carriage returns. The first error that applies is returned:
+///
+/// - the first refused line, with its number: a word error, `TooLong` if it has more than 1,024 bytes, or `Set` if its
+///   share can't join those of the lines before it;
+/// - `Device(Read)` if a read fails; an unfinished line is then dropped, unless it is too long already.
+///
+/// The caller keeps `failures()` below `u64::MAX`.
 pub fn read_set<R: Read>(input: &mut Counting<R>) -> Result<ShareSet, Stop<LineRefusal>>
     requires { input.old.failures < u64.MAX }
     ensures read { OfInput R.remaining input.old input.new (λ input. IsReadAs input result) }

@@ -41,8 +41,7 @@ pub struct EncryptedSecret {
 ///
 /// The first error that applies is returned:
 ///
-/// - the first refused line, with its number: a word error, `TooLong` if it has more than 1,024 bytes, or `Set` if its
-///   share can't join those of the lines before it;
+/// - the first refused line, as `s39_input::read_set` says;
 /// - `Lack` if the shares have no quorum;
 /// - `DigestMismatch` if a digest of the first quorum doesn't match.
 ///

@@ -26,9 +26,7 @@ use std::io::{Read, Write};
 /// The first error that applies is returned, and then nothing is written:
 ///
 /// - `Passphrase` if a byte of the passphrase isn't printable ASCII, before anything is read;
-/// - the first refused line, with its number: a word error, `TooLong` if it has more than 1,024 bytes, or `Set` if its
-///   share can't join those of the lines before it;
-/// - `Device(Read)` if a read fails; an unfinished line is then dropped, unless it is too long already;
+/// - what `s39_input::read_set` refuses: a line, or a failed read;
 /// - `Lack` if the shares have no quorum;
 /// - `DigestMismatch` if a digest of the first quorum doesn't match;
 /// - `OtherSecret` if the secret doesn't have the expected fingerprint.

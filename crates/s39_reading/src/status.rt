@@ -30,9 +30,7 @@ const LINES: u16 = MAX_GROUPS as u16 + 1;
 /// The function returns the numbers of the first line. There are enough shares if and only if `C` is at least `R`. The
 /// first error that applies is returned instead, and then nothing is written:
 ///
-/// - the first refused line, with its number: a word error, `TooLong` if it has more than 1,024 bytes, or `Set` if its
-///   share can't join those of the lines before it;
-/// - `Device(Read)` if a read fails; an unfinished line is then dropped, unless it is too long already;
+/// - what `s39_input::read_set` refuses: a line, or a failed read;
 /// - `Lack` if there are no shares.
 ///
 /// If a write fails or takes no byte, the fault is `Device(Write)`, and a beginning of the lines is written. The caller
