@@ -5,9 +5,6 @@
 #   make try         needs no kit: it compiles dist/c, and drills a backup with it. It leaves ./shamir, and ./shamir-papers, which runs
 #                    over the library
 #   make lib         proves and builds the library: libshamir.a and libshamir.so. It leaves ./shamir-papers, which runs over it
-#   make TARGET=aarch64-linux-gnu, make lib TARGET=aarch64-linux-gnu   build the program and the library for arm64, with the same
-#                    proofs, into out/aarch64-linux-gnu. They need the cross compiler aarch64-linux-gnu-gcc. `make wheel` and
-#                    `make deb` with this TARGET build the packages for arm64
 #   make prove-NAME  proves a library of crates/, after those that it uses
 #   make test-NAME   proves and runs the tests of a library, after the libraries that it uses
 #   make edits       tries the wrong bodies of crates/*/wrong-bodies.edits in rounds, as `make test` does
@@ -16,8 +13,8 @@
 #                    32-bit memory
 #   make portable    makes dist/c, the library and the program each as one file of C, from shamir32.wasm and program.wasm
 #   make page        builds shamir.html, the page with the library in it
-#   make checks      runs each check-NAME below except check-portable, check-arm64 and check-alone, side by side: as many as there are
-#                    processors, and as many as get 3 GB of memory each, or as -j says. Each tool runs in a target of its own, such as
+#   make checks      runs each check-NAME below except check-portable and check-alone, side by side: as many as there are processors,
+#                    and as many as get 3 GB of memory each, or as -j says. Each tool runs in a target of its own, such as
 #                    check-recipes, which runs alone too
 #   make check       runs the fast checks. They cover the documents, examples of doc comments, manual pages, completions,
 #                    terminals, values from files, refused allocations, the library and the packages
@@ -28,15 +25,12 @@
 #   make check-papers  checks shamir-papers in terminals: each task, each wrong answer, what the terminal and the memory keep
 #   make check-portable  checks dist/c, the library and the program each as one file of C: on x86-64 with each compiler, for other
 #                    processors with emulators, and for Windows with wine
-#   make check-arm64  checks with an emulator what is built for arm64: it compares the library with libshamir.so, the program with
-#                    a plain reading of the standard in Python, and the packages with those for x86-64
 #   make check-js    checks the JavaScript package alone: its types, and its tests with both forms of the library
 #   make check-secrets   looks with valgrind for branches and addresses of the library that depend on secrets, and for secrets that
 #                    its calls leave on the stack, and that the program leaves in its memory
 #   make faults      makes each allocation, open, read and write of the program fail in turn
 #   make compare     compares the program, and the repair of the library, with a plain reading of the standard in Python, on
 #                    generated cases; and the page and shamir-papers with the program
-#   make check-command  compares the command shamir of the Python package with the program, on generated command lines
 #   make bench       measures speed
 #   make install     installs the program, the library, the page and shamir-papers into the folders below, under DESTDIR. It proves
 #                    nothing. If one of them isn't up to date, it says so and installs nothing. Without DESTDIR, it lets the loader
@@ -46,15 +40,15 @@
 #   make uninstall   uninstalls all four
 #   make wheel       builds a wheel of the Python package, with libshamir.so and the commands shamir and shamir-papers in it
 #   make deb         builds the Debian packages shamir (with the page in it), libshamir1, libshamir-dev, python3-shamir and
-#                    shamir-papers
+#                    shamir-papers. `tools/deb --target` builds those for another processor, from dist/
 #   make check-packages  installs, runs and uninstalls what `make install`, `make wheel` and `make deb` make, and unpacks an
 #                    archive of the sources, such as `make dist` makes
-#   make release     writes dist/, which holds what needs no build: the page, the library as plain C and the module for JavaScript
+#   make release     writes dist/, which holds what needs no build: the page, the program and the library as plain C, and as modules for
+#                    JavaScript
 #   make check-dist  makes the files of dist/ anew, and compares them byte for byte
 #   make check-alone  uses the page and the packages where the kit, the repository and the network are hidden. It needs root's rights
 #   make dist        builds and packs all that a release gives into the folder shamir-VERSION: the committed sources, the page, dist/,
-#                    the packages, their sha256, and notes. The same commit and tools give the same bytes. What is built for arm64
-#                    is packed too
+#                    the packages, their sha256, and notes. The same commit and tools give the same bytes
 #   make clean       removes what these targets build, and what checks kept in crates/*/out
 RT ?= rt
 PYTHON ?= python3
@@ -74,7 +68,7 @@ PYTHONDIR ?= $(PREFIX)/share/shamir/python
 BASHDIR ?= $(PREFIX)/share/bash-completion/completions
 ZSHDIR ?= $(PREFIX)/share/zsh/site-functions
 FISHDIR ?= $(PREFIX)/share/fish/vendor_completions.d
-# tools/deb takes the program and the library from another folder.
+# tools/deb takes the program, the library and the page from another folder.
 BUILT = .
 VERSION = 1.0.0
 # The number in this name increases whenever a program linked against an earlier version would break. It is also the first
@@ -94,8 +88,6 @@ LOGIC = dac8208d650f15bf
 TELL_OF_KIT = @command -v $(RT) > /dev/null || { echo "make: $(RT) of the kit isn't on the path, so nothing can be proved or built (README.md says what the kit is); without it, 'make try' works, and dist/shamir.html opens in a browser" >&2; exit 1; }; \
 	found=$$($(RT) version 2> /dev/null) || found="no version"; case "$$found" in *" logic $(LOGIC)") ;; \
 	*) echo "make: 'rt version' says '$$found', and README.md names a kit with logic $(LOGIC)" >&2 ;; esac
-# Without the cross compiler, a target for arm64 says so before it proves anything.
-TELL_OF_COMPILER = @command -v $(CROSS_TARGET)-gcc > /dev/null || { echo "make: $(CROSS_TARGET)-gcc isn't here, so nothing can be built for arm64 (Debian: gcc-aarch64-linux-gnu)" >&2; exit 1; }
 # These crates are programs for measurements and checks.
 TOOLS = s39_bench s39_allocations s39_timing
 # The crate of the program is the only other one with a main.
@@ -120,27 +112,8 @@ TIMING = crates/s39_timing/out/timing
 
 .PHONY: all lib wasm portable page test quick edits twins check check-library check-js check-page check-papers check-packages check-secrets bench faults compare try install install-bin install-lib install-page install-papers uninstall wheel deb release dist clean
 
-# With TARGET on the command line, these targets build for another processor.
-CROSS_TARGET = aarch64-linux-gnu
-CROSS = out/$(CROSS_TARGET)
-ifeq ($(origin TARGET),command line)
-ifneq ($(TARGET),$(CROSS_TARGET))
-$(error TARGET can be $(CROSS_TARGET), and nothing else; without TARGET, make builds for this processor)
-endif
-ifneq ($(filter-out all lib wheel deb prove-%,$(MAKECMDGOALS)),)
-$(error with TARGET, make knows the targets 'all', 'lib', 'wheel' and 'deb' alone, and not '$(filter-out all lib wheel deb prove-%,$(MAKECMDGOALS))')
-endif
-all: $(CROSS)/shamir
-lib wheel: $(CROSS)/$(SONAME)
-deb: $(CROSS)/shamir $(CROSS)/$(SONAME) shamir.html
-FOR_TARGET = --target $(CROSS_TARGET)
-else
 all: shamir shamir-papers
 lib: libshamir.so $(SONAME) shamir-papers
-wheel: libshamir.so
-deb: shamir libshamir.so shamir.html
-FOR_TARGET =
-endif
 
 # Proves the libraries, proves and builds the program, and runs `show` once on the input stored in its crate.
 shamir: $(SOURCES)
@@ -166,22 +139,6 @@ libshamir.so: libshamir.a packaging/libshamir.map
 # Runs from this folder, over libshamir.so, or else over what `make try` compiled.
 shamir-papers: packaging/shamir-papers
 	cp $< $@
-
-$(CROSS)/shamir: $(SOURCES) packaging/arm64/kit.c
-	$(TELL_OF_KIT)
-	$(TELL_OF_COMPILER)
-	@$(MAKE) $(SIDE_BY_SIDE) $(addprefix prove-,$(LIBRARIES))
-	@RT=$(RT) tools/cross $(CROSS_TARGET) program
-
-$(CROSS)/libshamir.a: $(SOURCES)
-	$(TELL_OF_KIT)
-	$(TELL_OF_COMPILER)
-	@$(MAKE) $(SIDE_BY_SIDE) $(addprefix prove-,$(call uses,s39_c))
-	@RT=$(RT) tools/cross $(CROSS_TARGET) library
-
-$(CROSS)/$(SONAME): $(CROSS)/libshamir.a packaging/libshamir.map
-	$(CROSS_TARGET)-gcc $(SHARED) -o $(CROSS)/libshamir.so -Wl,--whole-archive $< -Wl,--no-whole-archive
-	ln -sf libshamir.so $@
 
 try: shamir-papers
 	@$(PYTHON) tools/try
@@ -213,7 +170,7 @@ PACKAGES_CHECKS = check-debs check-installed
 SECRETS_CHECKS = check-leftovers check-timing
 PAGE_PARTS = privacy change refusals tasks journey entry looks astray hasty long agreement ways
 PAGE_CHECKS = $(foreach part,$(PAGE_PARTS),check-page-firefox-$(part) check-page-chromium-$(part)) check-page-sources check-page-webkit
-CHECKS = $(LIBRARY_CHECKS) $(PACKAGES_CHECKS) check-allocations check-terminal check-recipes check-completions check-values check-command check-dist check-program \
+CHECKS = $(LIBRARY_CHECKS) $(PACKAGES_CHECKS) check-allocations check-terminal check-recipes check-completions check-values check-dist check-program check-node \
 	check-examples check-texts check-figures check-manual check-version
 LONGEST = check-page-firefox-privacy check-page-chromium-privacy check-header check-rust check-leftovers check-papers check-vectors $(PACKAGES_CHECKS)
 PART = @$(PYTHON) tools/part $@
@@ -222,7 +179,7 @@ WASM_OPT := $(shell command -v wasm-opt 2> /dev/null)
 PAGE = $(if $(WASM_OPT),shamir.html)
 MODULES = $(if $(WASM_OPT),shamir32.wasm program.wasm)
 
-.PHONY: checks check-secrets check-portable check-arm64 check-alone $(CHECKS) $(SECRETS_CHECKS) $(PAGE_CHECKS)
+.PHONY: checks check-secrets check-portable check-alone $(CHECKS) $(SECRETS_CHECKS) $(PAGE_CHECKS)
 
 checks: shamir libshamir.so $(SONAME) $(TIMING) shamir.wasm $(PAGE) $(MODULES)
 	@$(MAKE) $(SIDE_BY_SIDE) $(LONGEST) $(PAGE_CHECKS) $(SECRETS_CHECKS) check-papers $(CHECKS)
@@ -246,8 +203,6 @@ check-page: shamir $(PAGE)
 ifneq ($(filter check%,$(MAKECMDGOALS)),)
 libshamir.a: | shamir
 $(TIMING): | libshamir.so $(if $(filter checks,$(MAKECMDGOALS)),shamir.wasm)
-$(CROSS)/shamir: | libshamir.a $(if $(WASM_OPT),shamir.wasm)
-$(CROSS)/libshamir.a: | $(CROSS)/shamir
 endif
 
 check-version: shamir
@@ -278,9 +233,6 @@ check-terminal: shamir
 check-alone:
 	$(PART) $(PYTHON) tools/alone
 
-check-command: shamir libshamir.so
-	$(PART) $(PYTHON) tools/command
-
 # Without wasm-opt there is no page, and the check says so.
 check-dist: $(PAGE) $(MODULES)
 	$(PART) $(PYTHON) tools/release --check
@@ -288,6 +240,10 @@ check-dist: $(PAGE) $(MODULES)
 # The program as plain C beside ./shamir, on this machine alone.
 check-program: shamir libshamir.so $(MODULES)
 	$(PART) $(PYTHON) tools/check_portable --program
+
+# The program in Node beside ./shamir. Without wasm-opt there is no program.wasm, and the check says so.
+check-node: shamir $(MODULES)
+	$(PART) $(PYTHON) tools/node
 
 check-values: shamir
 	$(PART) tools/values
@@ -317,11 +273,7 @@ check-rust: libshamir.so
 check-portable: shamir libshamir.so $(SONAME) $(MODULES)
 	$(PART) $(PYTHON) tools/check_portable
 
-# Without a cross compiler nothing is built for arm64, and the check says so.
-check-arm64: shamir libshamir.so $(SONAME) $(PAGE) $(if $(shell command -v $(CROSS_TARGET)-gcc 2> /dev/null),$(CROSS)/shamir $(CROSS)/$(SONAME))
-	$(PART) $(PYTHON) tools/check_arm64
-
-check-js: shamir.wasm $(PAGE)
+check-js: shamir.wasm $(PAGE) $(MODULES)
 	$(PART) tools/javascript
 
 check-installed: shamir libshamir.so $(PAGE)
@@ -360,7 +312,6 @@ faults: shamir
 compare: shamir libshamir.so shamir32.wasm shamir.html
 	@tools/compare
 	@tools/library --kinds repair --cases 10000
-	@tools/command --lines 5000
 	@tools/javascript --cases 10000
 	@$(PYTHON) tools/check_page --cases 200 agreement
 	@$(PYTHON) tools/check_papers --cases 300 agreement
@@ -410,20 +361,19 @@ install-lib:
 	@test -n "$(DESTDIR)" || PATH="$$PATH:/usr/sbin:/sbin" LDCONFIG="$(LDCONFIG)" packaging/loader "$(LIBDIR)" $(SONAME)
 
 install-page:
-	@test -f shamir.html || { echo "make install-page: ./shamir.html isn't here: 'make page' builds it" >&2; exit 1; }
+	@test -f $(BUILT)/shamir.html || { echo "make install-page: $(BUILT)/shamir.html isn't here: 'make page' builds it" >&2; exit 1; }
 	$(INSTALL) -d "$(DESTDIR)$(PAGEDIR)"
-	$(INSTALL) -m 644 shamir.html dist/heirs.html "$(DESTDIR)$(PAGEDIR)"
+	$(INSTALL) -m 644 $(BUILT)/shamir.html dist/heirs.html "$(DESTDIR)$(PAGEDIR)"
 
 # The command finds its modules and the library by the folders that are given here.
 START_PAPERS = sed -n '/^. Until/,$$p' packaging/shamir-papers
 install-papers:
 	$(INSTALL) -d "$(DESTDIR)$(BINDIR)" "$(DESTDIR)$(MANDIR)/man1" "$(DESTDIR)$(BASHDIR)" "$(DESTDIR)$(ZSHDIR)" "$(DESTDIR)$(FISHDIR)" \
-		"$(DESTDIR)$(PYTHONDIR)/shamir/command" "$(DESTDIR)$(PYTHONDIR)/shamir/papers"
+		"$(DESTDIR)$(PYTHONDIR)/shamir/papers"
 	printf '#!/bin/sh\ntest -f "%s" || { echo "shamir-papers: %s is missing" >&2; exit 1; }\nexport "SHAMIR_LIBRARY=%s" "PYTHONPATH=%s"\npython=python3 options=\n' "$(LIBDIR)/$(SONAME)" "$(LIBDIR)/$(SONAME)" "$(LIBDIR)/$(SONAME)" "$(PYTHONDIR)" > "$(DESTDIR)$(BINDIR)/shamir-papers"
 	$(START_PAPERS) >> "$(DESTDIR)$(BINDIR)/shamir-papers"
 	chmod 755 "$(DESTDIR)$(BINDIR)/shamir-papers"
 	$(INSTALL) -m 644 bindings/python/shamir/*.py bindings/python/shamir/py.typed "$(DESTDIR)$(PYTHONDIR)/shamir"
-	$(INSTALL) -m 644 bindings/python/shamir/command/*.py "$(DESTDIR)$(PYTHONDIR)/shamir/command"
 	$(INSTALL) -m 644 bindings/python/shamir/papers/*.py page/texts.js "$(DESTDIR)$(PYTHONDIR)/shamir/papers"
 	$(INSTALL) -m 644 man/shamir-papers.1 "$(DESTDIR)$(MANDIR)/man1/shamir-papers.1"
 	$(INSTALL) -m 644 completions/shamir-papers.bash "$(DESTDIR)$(BASHDIR)/shamir-papers"
@@ -445,11 +395,11 @@ uninstall:
 	cd "$(DESTDIR)$(DOCDIR)/" 2> /dev/null && rm -f $(DOCUMENTS) docs/*.md docs/*.png examples/*.txt examples/*.sh examples/c/*.c examples/cpp/*.cpp && \
 	rmdir examples/c examples/cpp examples docs "$$(pwd)" 2> /dev/null; true
 
-wheel:
-	$(PYTHON) tools/wheel $(FOR_TARGET)
+wheel: shamir libshamir.so
+	$(PYTHON) tools/wheel
 
-deb:
-	tools/deb $(FOR_TARGET)
+deb: shamir libshamir.so shamir.html
+	tools/deb
 
 release: shamir.html program.wasm
 	@$(PYTHON) tools/release
@@ -457,7 +407,7 @@ release: shamir.html program.wasm
 dist:
 	@top=$$(git -c 'safe.directory=*' rev-parse --show-toplevel 2>&1); test "$$top" = "$$(pwd -P)" || \
 	{ echo "make dist: this folder isn't the top of a git checkout, so there is no commit to pack: $$top" >&2; exit 1; }
-	@$(MAKE) -s shamir libshamir.so shamir.html $(and $(wildcard $(CROSS)/shamir),$(wildcard $(CROSS)/libshamir.so),$(CROSS)/shamir $(CROSS)/$(SONAME))
+	@$(MAKE) -s shamir libshamir.so shamir.html
 	@RT=$(RT) $(PYTHON) tools/dist $(VERSION)
 
 wasm: shamir32.wasm
@@ -482,7 +432,7 @@ shamir.html: shamir32.wasm tools/page $(wildcard page/*.js page/*.html page/*.cs
 	@tools/page
 
 clean:
-	rm -rf shamir shamir-papers libshamir.a libshamir.so $(SONAME) shamir.wasm shamir32.wasm program.wasm shamir.html page/out bindings/python/shamir/libshamir.so bindings/python/shamir/portable.so bindings/python/LICENSE bindings/python/NOTICE bindings/python/build bindings/python/shamir.egg-info bindings/js/shamir32.wasm bindings/js/LICENSE bindings/js/NOTICE shamir-$(VERSION) shamir-*.tar.gz shamir-*.whl *.deb out crates/*/out
+	rm -rf shamir shamir-papers libshamir.a libshamir.so $(SONAME) shamir.wasm shamir32.wasm program.wasm shamir.html page/out bindings/python/shamir/libshamir.so bindings/python/shamir/portable.so bindings/python/LICENSE bindings/python/NOTICE bindings/python/build bindings/python/shamir.egg-info bindings/js/*.wasm bindings/js/LICENSE bindings/js/NOTICE shamir-$(VERSION) shamir-*.tar.gz shamir-*.whl *.deb crates/*/out
 
 # prove-NAME proves the library NAME once those are proved that it uses. `rt` looks at the contents of all files, and proves only
 # what changed.

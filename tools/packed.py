@@ -10,12 +10,14 @@ from left_out import is_here, python_with
 from tool import ROOT, mirrored, of_makefile, ran
 
 BINDINGS = ROOT / "bindings"
-# The other processor for which there are packages, and what makes those for Debian.
-ARM64 = "aarch64-linux-gnu"
+# The compilers for the other processors of which there are packages for Debian, by Debian's names for these; and what makes packages.
+TARGETS = {"arm64": "aarch64-linux-gnu", "armhf": "arm-linux-gnueabihf", "riscv64": "riscv64-linux-gnu", "s390x": "s390x-linux-gnu"}
 DEB_TOOLS = ["dpkg-deb", "dpkg-shlibdeps", "dpkg-gencontrol", "dpkg-gensymbols", "dpkg-architecture", "strip"]
 # The archive of the crate has these files, and the repository has the same.
-OF_CRATE = {"c/shamir.c": "dist/c/shamir.c", "c/shamir.h": "dist/c/shamir.h", "LICENSE": "LICENSE", "NOTICE": "NOTICE"}
+OF_CRATE = {**{f"c/{name}": f"dist/c/{name}" for name in ["program.c", "shamir.c", "shamir.h"]}, "LICENSE": "LICENSE", "NOTICE": "NOTICE"}
 OF_CRATE |= {"tests/given/published_vectors": "crates/s39_tests_backups/src/published.rt"}
+# The modules in npm's archive: the library and the program.
+MODULES = ["shamir32.wasm", "program.wasm"]
 # These variables in the environment change what make does, and which library the commands take.
 FOLDERS = ["BINDIR", "LIBDIR", "INCLUDEDIR", "MANDIR", "DOCDIR", "PAGEDIR", "PYTHONDIR", "BASHDIR", "ZSHDIR", "FISHDIR"]
 VARIABLES = {"DESTDIR", "PREFIX", *FOLDERS, "INSTALL", "LDCONFIG", "CFLAGS", "LDFLAGS", "MAKEFLAGS", "MFLAGS", "MAKELEVEL", "PYTHONPATH", "SHAMIR_LIBRARY"}
@@ -89,11 +91,16 @@ def npm_settings(folder):
     return {**os.environ, "npm_config_cache": f"{folder}/cache", "npm_config_offline": "true", "npm_config_update_notifier": "false"}
 
 
+def lacking_modules():
+    """Names the modules that npm's archive can't have, because they are neither built nor in dist/, or returns an empty text."""
+    return " and ".join(it for it in MODULES if not (ROOT / it).exists() and not (ROOT / "dist" / it).exists())
+
+
 def npm_archive(folder):
-    """Writes npm's archive of the JavaScript package to a folder, and returns it. The module is that of `make wasm`, or else that of dist/."""
+    """Writes npm's archive of the JavaScript package to a folder, and returns it. Each module is that of make, or else that of dist/."""
     with tempfile.TemporaryDirectory() as top:
         mirrored(pathlib.Path(top), ["bindings/js"], "*.wasm", "LICENSE", "NOTICE")
-        mirrored(pathlib.Path(top), [name for name in ["LICENSE", "NOTICE", "shamir32.wasm", "dist/shamir32.wasm"] if (ROOT / name).exists()])
+        mirrored(pathlib.Path(top), [name for name in ["LICENSE", "NOTICE", *MODULES, *(f"dist/{it}" for it in MODULES)] if (ROOT / name).exists()])
         ran(["npm", "pack", "--pack-destination", str(folder)], cwd=f"{top}/bindings/js", env=npm_settings(top))
     return only_one(folder, "shamir-*.tgz")
 
@@ -134,7 +141,7 @@ def check_papers(command, environment):
         sys.exit(f"shamir-papers where it is installed: {told}")
 
 
-def check_command(command, environment=None, examples=ROOT / "examples"):
+def check_command(command, environment=None, examples=ROOT / "examples", cwd=None):
     """Checks that a command `shamir` runs where it is installed: its version, the drill of an example, and its first two quorums."""
     words = ["drill", "--expect", "df41d8fe", "--passphrase-file", str(examples / "passphrase.txt")]
     mnemonics, listed = (examples / "three-groups.txt").read_bytes(), [f"{names} as expected\n" for names in QUORUMS]
@@ -143,7 +150,7 @@ def check_command(command, environment=None, examples=ROOT / "examples"):
         (words, [*listed, "end\n"]),
         ([*words, "--limit", "2"], [*listed[:2], f"more after {QUORUMS[1]}\n"]),
     ]:
-        done = subprocess.run([*command, *given], env=environment, input=mnemonics, capture_output=True)
+        done = subprocess.run([*command, *given], env=environment, cwd=cwd, input=mnemonics, capture_output=True)
         if (done.returncode, done.stdout, done.stderr) != (0, "".join(lines).encode(), b""):
             sys.exit(f"the command shamir where it is installed: {done}")
 

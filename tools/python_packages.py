@@ -14,10 +14,10 @@ from tool import ROOT, check_fails, mirrored, of_makefile, ran, tested
 
 BINDING = pathlib.Path("bindings", "python")
 # What the archive of the sources has, and where the repository has the same.
-CARRIED = {"c/shamir.c": "dist/c/shamir.c", "c/shamir.h": "dist/c/shamir.h", "shamir/papers/texts.js": "page/texts.js"}
+CARRIED = {**{f"c/{name}": f"dist/c/{name}" for name in ["program.c", "shamir.c", "shamir.h"]}, "shamir/papers/texts.js": "page/texts.js"}
 CARRIED |= {name: name for name in ["LICENSE", "NOTICE"]}
 CARRIED |= {name: str(BINDING / name) for name in ["setup.py", "pyproject.toml", "README.md", "MANIFEST.in", "tests/test_shamir.py"]}
-CARRIED |= {f"shamir/{name}": str(BINDING / "shamir" / name) for name in ["__init__.py", "mnemonic.py", "command/program.py", "py.typed"]}
+CARRIED |= {f"shamir/{name}": str(BINDING / "shamir" / name) for name in ["__init__.py", "mnemonic.py", "py.typed"]}
 
 
 def made(python, folder, *words):
@@ -78,7 +78,7 @@ def check_no_library(python):
     """Checks that building a wheel without the library fails, and that the message says why."""
     with tempfile.TemporaryDirectory() as folder:
         mirrored(pathlib.Path(folder), ["bindings/python", "page", "tools"], "*.so", "NOTICE", "out")
-        told = "libshamir.so isn't here, and a wheel is nothing without its library"
+        told = "libshamir.so isn't here, and a wheel has it"
         check_fails("tools/wheel without the library", [python, f"{folder}/tools/wheel", folder], told)
 
 

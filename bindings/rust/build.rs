@@ -1,6 +1,6 @@
 //! Links the library. `SHAMIR_LIB_DIR` names the folder of a `libshamir.a`, and `SHAMIR_USE_PKG_CONFIG` asks for the one that
 //! `pkg-config` tells. Without these, the archive of the repository is linked if it is built there, and else the library is compiled
-//! from `shamir.c`, the library as plain C.
+//! from `shamir.c`, the library as plain C. With the feature `program`, the program `shamir` is compiled from `program.c`.
 use std::env;
 use std::ffi::OsString;
 use std::path::{Path, PathBuf};
@@ -8,7 +8,8 @@ use std::process::Command;
 
 const ARCHIVE: &str = "libshamir.a";
 /// What the crate takes from elsewhere: where its archive has this, and where the repository.
-const PLAIN_C: [&str; 2] = ["c/shamir.c", "../../dist/c/shamir.c"];
+const LIBRARY: [&str; 2] = ["c/shamir.c", "../../dist/c/shamir.c"];
+const PROGRAM: [&str; 2] = ["c/program.c", "../../dist/c/program.c"];
 const HEADER: [&str; 2] = ["c/shamir.h", "../../include/shamir.h"];
 const VECTORS: [&str; 2] = ["tests/given/published_vectors", "../../crates/s39_tests_backups/src/published.rt"];
 /// The crate declares the calls of these versions.
@@ -25,12 +26,27 @@ fn main() {
     for (name, places) in [("SHAMIR_HEADER", HEADER), ("SHAMIR_VECTORS", VECTORS)] {
         println!("cargo::rustc-env={name}={}", carried(places).display());
     }
-    match named().or_else(asked).or_else(built).unwrap_or_else(|| compiled(&target)) {
+    match named().or_else(asked).or_else(built).unwrap_or_else(|| archived(&target)) {
         Ok(folder) => {
             println!("cargo::rustc-link-search=native={}", folder.display());
             println!("cargo::rustc-link-lib=static=shamir");
         }
         Err(missing) => println!("cargo::error={missing}"),
+    }
+    if env::var_os("CARGO_FEATURE_PROGRAM").is_some() {
+        match compiled("program", PROGRAM, &target) {
+            Ok(object) => link_program(&object),
+            Err(missing) => println!("cargo::error={missing}"),
+        }
+    }
+}
+
+/// Lets the program be linked from this object.
+fn link_program(object: &Path) {
+    println!("cargo::rustc-link-arg-bin=shamir={}", object.display());
+    if variable("CARGO_CFG_TARGET_OS") == "windows" {
+        // It takes apart the line of a command.
+        println!("cargo::rustc-link-arg-bin=shamir=-lshell32");
     }
 }
 
@@ -117,27 +133,37 @@ fn told(words: &[&str]) -> Option<String> {
     String::from_utf8(ended.stdout).ok()
 }
 
-/// Compiles the library as plain C, and gives the folder of its archive.
-fn compiled(target: &str) -> Result<PathBuf, String> {
-    let folder = PathBuf::from(env::var_os("OUT_DIR").unwrap_or_default());
-    let (object, archive) = (folder.join("shamir.o"), folder.join(ARCHIVE));
-    let mut compiler = program("CC", "cc", target)?;
-    compiler.args(["-O2", "-c", "-o"]).arg(&object).arg(carried(PLAIN_C));
+/// Gives the folder for what is built.
+fn out() -> PathBuf {
+    PathBuf::from(env::var_os("OUT_DIR").unwrap_or_default())
+}
+
+/// Compiles a file of plain C, and gives its object.
+fn compiled(name: &str, source: [&str; 2], target: &str) -> Result<PathBuf, String> {
+    let object = out().join(format!("{name}.o"));
+    let mut compiler = tool("CC", "cc", target)?;
+    compiler.args(["-O2", "-c", "-o"]).arg(&object).arg(carried(source));
     if variable("CARGO_CFG_TARGET_OS") != "windows" {
         compiler.arg("-fPIC");
     }
     compiler.args(variable("CFLAGS").split_whitespace());
     run(compiler, "CC")?;
+    Ok(object)
+}
+
+/// Compiles the library as plain C, and gives the folder of its archive.
+fn archived(target: &str) -> Result<PathBuf, String> {
+    let (object, archive) = (compiled("shamir", LIBRARY, target)?, out().join(ARCHIVE));
     // `ar` adds to an archive that is there.
     let _ = std::fs::remove_file(&archive);
-    let mut archiver = program("AR", "ar", target)?;
+    let mut archiver = tool("AR", "ar", target)?;
     archiver.arg("crs").arg(&archive).arg(&object);
     run(archiver, "AR")?;
-    Ok(folder)
+    Ok(out())
 }
 
 /// Gives the program that a variable names, for this target or for all, or else the usual one, which builds for this machine alone.
-fn program(name: &str, usual: &str, target: &str) -> Result<Command, String> {
+fn tool(name: &str, usual: &str, target: &str) -> Result<Command, String> {
     let given = env::var(format!("{name}_{target}")).or_else(|_| env::var(name)).unwrap_or_default();
     let mut words = given.split_whitespace().map(OsString::from);
     let Some(first) = words.next() else {
@@ -145,7 +171,7 @@ fn program(name: &str, usual: &str, target: &str) -> Result<Command, String> {
             return Ok(Command::new(usual));
         }
         return Err(format!(
-            "the library as plain C is compiled for {}: set {name}_{target} to a program for this target",
+            "the plain C of shamir is compiled for {}: set {name}_{target} to a program for this target",
             variable("TARGET")
         ));
     };
@@ -167,6 +193,6 @@ fn run(mut command: Command, name: &str) -> Result<(), String> {
         Err(error) => error.to_string(),
     };
     Err(format!(
-        "{program} doesn't make the library as plain C: {why} ({name} names another program; SHAMIR_LIB_DIR names the folder of a built {ARCHIVE})"
+        "{program} doesn't take the plain C of shamir: {why} ({name} names another program; SHAMIR_LIB_DIR names the folder of a built {ARCHIVE})"
     ))
 }
