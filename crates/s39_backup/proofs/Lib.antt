@@ -23,6 +23,7 @@ pub mod Reissued
 pub mod LargerPlans
 pub mod Chosen
 pub mod HeldGroups
+pub mod KeptShares
 pub mod AfterFirst
 pub mod Refitted
 pub mod Resplits

@@ -14,4 +14,5 @@ pub mod Reissuing
 pub mod LargerPlan
 pub mod TwoShort
 pub mod Correspondence
+pub mod InCommon
 pub mod Refitting

@@ -5,14 +5,16 @@ ghost use Rattle.s39_kdf.specs.Bytes.{AreBytes};
 ghost use Rattle.s39_kdf.specs.Limits.{shortest_secret, IsSecretLength};
 ghost use Rattle.s39_split.specs.Shares.{bytes_of};
 ghost use Rattle.s39_split.specs.Sharing.{most_shares, random_needed as level_random_needed, IsSplit};
+ghost use Rattle.s39_words.specs.declared.share.ShareFields.{ShareFields};
 ghost use Rattle.s39_set.specs.Names.{most_groups, names_in_group, AreNames};
 ghost use Rattle.s39_backup.specs.Plan.{IsGroup};
-ghost use Rattle.s39_backup.specs.Created.{random_needed};
+ghost use Rattle.s39_backup.specs.Created.{random_needed, IsCreatedFrom};
 ghost use Rattle.s39_backup.specs.Asking.{asked_of};
 ghost use Rattle.s39_backup.specs.Building.{ShareOneLength};
 ghost use Rattle.s39_backup.specs.TwoShort.{IsTwoShort};
 ghost use Rattle.s39_backup.specs.Correspondence.{StayTheSame, CorrespondAtLevel, CorrespondInGroup, Correspond};
 ghost use Rattle.s39_backup.specs.Refitting.{AreKept, AreNamesOfGroups, CorrespondInGroups};
+ghost use Rattle.s39_backup.specs.InCommon.{HaveTheShare};
 
 use crate::creation::{ID_BYTES, params_from};
 use crate::options::Options;
@@ -75,6 +77,11 @@ pub fn refit(
     ensures unchanged { result ≡ false → random.new ≡ random.old }
     ensures corresponds { IsTrue result → Correspond keep.now
         (asked_of plan.now secret.now passphrase.now options) other.now random.old random.new }
+    // The backups of both secrets have the same shares with these names.
+    ensures kept { IsTrue result → (shares others : List ShareFields)
+        → IsCreatedFrom (asked_of plan.now secret.now passphrase.now options) random.old shares
+        → IsCreatedFrom (asked_of plan.now other.now passphrase.now options) random.new others
+        → All (HaveTheShare shares others) keep.now }
 {
     if !are_two_short(plan, keep.pairs()) {
         return false;

@@ -1,10 +1,10 @@
 -- Random bytes of a backup have a corresponding list.
 use Rattle.std.proofs.Common.{◌≡◌, ℕ, suc, ◌+◌, ◌-◌, ◌==◌, ◌%◌, ◌^◌, ◌<◌, ◌≤◌, List, [], ◌∷◌, ◌++◌, length, get_or, take, drop, map, sum_by, All, true, false}
 use Rattle.std.proofs.Common.{refl, sym, ap, ap₂, subst, ◌∙◌, inl, inr, arith, length-append, length-drop}
-use Rattle.std.specs.List.{concat, slice_get}
+use Rattle.std.specs.List.{concat}
 use Rattle.std.proofs.lemmas.Bool.{cases_Bool}
 use Rattle.std.proofs.lemmas.List.{length-map, length-take-le, take-append-drop, nil_from_length}
-use Rattle.std.proofs.lemmas.List.Elements.{All-append, All-contains, All-cons, All-drop, All-filter, All-head, All-map, All-nil, All-tail, All-take}
+use Rattle.std.proofs.lemmas.List.Elements.{All-append, All-cons, All-drop, All-filter, All-head, All-map, All-nil, All-tail, All-take}
 use Rattle.std.proofs.lemmas.List.Sums.{sum_by-cons}
 use Rattle.s39_kdf.specs.declared.params.Params.{Params}
 use Rattle.s39_kdf.specs.Bytes.{AreBytes}
@@ -15,7 +15,6 @@ use Rattle.s39_split.proofs.SplitLaws.{splits_take_the_bytes_needed, shares_are_
 use Rattle.s39_split.proofs.Choices.{length-shares}
 use Rattle.s39_set.specs.Names.{Names, names_in_group, IsAscending}
 use Rattle.s39_set.proofs.MembersOf.{names_in_group-group}
-use Rattle.s39_lists.proofs.Finds.{some_same}
 use Rattle.s39_backup.specs.declared.plan.Members.{Members}
 use Rattle.s39_backup.specs.Plan.{IsGroup}
 use Rattle.s39_backup.specs.Plan.{IsNameOfPlan}
@@ -23,36 +22,18 @@ use Rattle.s39_backup.specs.Created.{Asked, identifier_of}
 use Rattle.s39_backup.proofs.OneRecovery.{of_fields}
 use Rattle.s39_backup.specs.TwoShort.{is_held, held_groups}
 use Rattle.s39_backup.specs.Correspondence.{CorrespondInGroup, CorrespondInEach, Correspond}
-use Rattle.s39_secrecy.specs.Secrecy.{AreRandomBytes, AreTwoShort, for_secret}
+use Rattle.s39_secrecy.specs.Secrecy.{AreRandomBytes, AreTwoShort}
 use Rattle.s39_backup.proofs.Chosen.{kept_stay}
-use Rattle.s39_backup.proofs.HeldGroups.{members-ascending, held-ascending, held-below, held-among, member-below, not_less}
+use Rattle.s39_backup.proofs.KeptShares.{HeldAreSame, held-first, held-later, held_same}
+use Rattle.s39_backup.proofs.HeldGroups.{members-ascending, held-ascending, held-below, member-below, not_less}
 use Rattle.s39_backup.specs.Refitting.{AreKept}
+use Rattle.s39_backup.specs.InCommon.{for_secret}
 use Rattle.s39_secrecy.proofs.Levels.{have_level}
 
 -- each group from this one on has the members of its names
 abbrev pub AreNamesOfGroups : Names → ℕ → List Members → Type 0
 AreNamesOfGroups names group groups = (i : ℕ) (d : Members) → i < length groups
     → All (λ name. name.1 < (get_or groups i d).count) (names_in_group (group + i) names)
-
--- the share of each held group, from this one on, is the same
-abbrev pub HeldAreSame : Names → ℕ → List Members → List (List ℕ) → List (List ℕ) → Type 0
-HeldAreSame names group groups shares others = (i : ℕ) (d : Members) → i < length groups
-    → is_held names (group + i, get_or groups i d) ≡ true
-    → slice_get shares i ≡ slice_get others i
-
--- the same of the groups after the first
-pub held-later : (names : Names) (group : ℕ) (members : Members) (groups : List Members) (share other : List ℕ) (shares others : List (List ℕ))
-    → HeldAreSame names group (members ∷ groups) (share ∷ shares) (other ∷ others) → HeldAreSame names (group + 1) groups shares others
-held-later names group members groups share other shares others held i d within is =
-    let place : (group + 1) + i ≡ group + suc i = omega arith in
-    held (suc i) d (omega arith) (subst (λ (g : ℕ). is_held names (g, get_or groups i d) ≡ true) place is)
-
--- and of the first
-pub held-first : (names : Names) (group : ℕ) (members : Members) (groups : List Members) (share other : List ℕ) (shares others : List (List ℕ))
-    → HeldAreSame names group (members ∷ groups) (share ∷ shares) (other ∷ others) → is_held names (group, members) ≡ true → share ≡ other
-held-first names group members groups share other shares others held is =
-    let place : group ≡ group + 0 = omega arith in
-    some_same share other (held 0 members (omega arith) (subst (λ (g : ℕ). is_held names (g, members) ≡ true) place is))
 
 -- random bytes that correspond to these in a group
 record HaveGroup (names : Names) (group : ℕ) (members : Members) (share other random : List ℕ) : Type 0 where
@@ -166,14 +147,6 @@ module _ (names : Names) (ascending : IsAscending names) (n : ℕ) (long : diges
       }
 
 -- ---- a backup
-
--- the held groups have the same shares
-pub held_same : (names : Names) (groups : List Members) (shares others : List (List ℕ))
-    → All (λ index. slice_get shares index ≡ slice_get others index) (held_groups names groups) → HeldAreSame names 0 groups shares others
-held_same names groups shares others same i d within is =
-    let here : 0 + i ≡ i = omega arith in
-    let at = All-contains (λ j. slice_get shares j ≡ slice_get others j) (held_groups names groups) (0 + i) same (held-among names groups i d within is) in
-    ap (slice_get shares) (sym here) ∙ at ∙ ap (slice_get others) here
 
 -- random bytes that correspond to these
 pub record HaveCorrespondent (names : Names) (asked : Asked) (other random : List ℕ) : Type 0 where

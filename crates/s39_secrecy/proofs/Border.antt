@@ -22,9 +22,10 @@ use Rattle.s39_lists.proofs.Pairs.{AllPairs-map, AllPairs-from_map}
 use Rattle.s39_backup.specs.declared.plan.Members.{Members}
 use Rattle.s39_backup.specs.Created.{Asked, AreSplitAmong, IsCreatedFrom}
 use Rattle.s39_backup.specs.Outcome.{AreParams}
+use Rattle.s39_backup.specs.InCommon.{for_secret}
 use Rattle.s39_backup.proofs.OneRecovery.{same_params}
 use Rattle.s39_backup.proofs.Promise.{IsCreatedShare, in_created_groups}
-use Rattle.s39_secrecy.specs.Secrecy.{Give, for_secret, member_points}
+use Rattle.s39_secrecy.specs.Secrecy.{Give, member_points}
 use Rattle.s39_secrecy.proofs.Back.{encrypted_once}
 
 -- shares of one level and a secret at its place that don't combine are of no split of it

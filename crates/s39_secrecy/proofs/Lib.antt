@@ -1,7 +1,6 @@
 pub mod KnownShares
 pub mod Levels
 pub mod Backups
-pub mod KeptShares
 pub mod Back
 pub mod OneToOne
 pub mod Counts

@@ -15,11 +15,12 @@ use Rattle.s39_lists.proofs.Images.{Contains-map}
 use Rattle.s39_backup.specs.Created.{Asked, needed_by, IsCreatedFrom}
 use Rattle.s39_backup.proofs.Creations.{backup_exists}
 use Rattle.s39_backup.specs.Correspondence.{Correspond}
-use Rattle.s39_secrecy.specs.Secrecy.{CanBeAsked, AreRandomBytes, for_secret, AreTwoShort, HaveTheShare, UndoEachOther}
+use Rattle.s39_backup.specs.InCommon.{for_secret, HaveTheShare}
+use Rattle.s39_secrecy.specs.Secrecy.{CanBeAsked, AreRandomBytes, AreTwoShort, UndoEachOther}
 use Rattle.s39_secrecy.specs.Secrecy.{CorrespondOneToOne, TellNothing, Give, AreDifferent}
 use Rattle.s39_secrecy.proofs.Back.{bytes_back}
 use Rattle.s39_secrecy.proofs.Backups.{have_correspondent}
-use Rattle.s39_secrecy.proofs.KeptShares.{created_once, shares_kept}
+use Rattle.s39_backup.proofs.KeptShares.{created_once, shares_kept}
 
 -- numbers are bytes, or one isn't
 bytes_or_not : (xs : List ℕ) → AreBytes xs ⊎ (AreBytes xs → ⊥)

@@ -7,8 +7,9 @@ use Rattle.s39_words.specs.declared.share.ShareFields.{ShareFields}
 use Rattle.s39_set.specs.Names.{Name}
 use Rattle.s39_set.specs.ShareSet.{name_of}
 use Rattle.s39_backup.specs.Created.{Asked, IsCreatedFrom}
+use Rattle.s39_backup.specs.InCommon.{for_secret, HaveTheShare}
 use Rattle.s39_backup.proofs.Creations.{backup_once}
-use Rattle.s39_secrecy.specs.Secrecy.{CanBeAsked, for_secret, HaveTheShare, TellNothing, Give, CorrespondOneToOne}
+use Rattle.s39_secrecy.specs.Secrecy.{CanBeAsked, TellNothing, Give, CorrespondOneToOne}
 use Rattle.s39_secrecy.proofs.OneToOne.{some_backup, still_there}
 
 turned : (shares others : List ShareFields) (name : Name) → HaveTheShare shares others name → HaveTheShare others shares name

@@ -4,11 +4,11 @@ use Rattle.std.specs.Prelude.{◌≡◌, ◌≢◌, ℕ, List, length, map, All,
 use Rattle.s39_kdf.specs.Bytes.{AreBytes}
 use Rattle.s39_kdf.specs.Limits.{IsSecretLength}
 use Rattle.s39_words.specs.declared.share.ShareFields.{ShareFields}
-use Rattle.s39_set.specs.Names.{Name, Names, IsAscending}
-use Rattle.s39_set.specs.ShareSet.{name_of}
+use Rattle.s39_set.specs.Names.{Names, IsAscending}
 use Rattle.s39_backup.specs.Plan.{IsPlan}
 use Rattle.s39_backup.specs.Created.{Asked, needed_by, IsCreatedFrom}
 use Rattle.s39_backup.specs.TwoShort.{IsTwoShort}
+use Rattle.s39_backup.specs.InCommon.{for_secret, HaveTheShare}
 
 -- a backup of this can be created: by a plan, of bytes that are as many as a secret may have
 pub record CanBeAsked (asked : Asked) : Type 0 where
@@ -21,10 +21,6 @@ pub record AreRandomBytes (asked : Asked) (random : List ℕ) : Type 0 where
   pub bytes : AreBytes random
   pub number : length random ≡ needed_by asked
 
--- the same passphrase, plan and options, with another secret
-abbrev pub for_secret : List ℕ → Asked → Asked
-for_secret other asked = record asked { secret = other }
-
 -- What a backup is created from, another secret that is as long, and names of shares, each once and in order, that are
 -- two short of the plan.
 pub record AreTwoShort (asked : Asked) (other : List ℕ) (names : Names) : Type 0 where
@@ -33,13 +29,6 @@ pub record AreTwoShort (asked : Asked) (other : List ℕ) (names : Names) : Type
   pub one_length : length other ≡ length asked.secret
   pub ascending : IsAscending names
   pub two_short : IsTwoShort asked.group_threshold asked.groups names
-
--- both have the same share with this name
-pub record HaveTheShare (shares others : List ShareFields) (name : Name) : Type 0 where
-  pub share : ShareFields
-  pub name_is : name_of share ≡ name
-  pub in_shares : Contains shares share
-  pub in_others : Contains others share
 
 -- Two functions that undo each other, between the lists of two kinds: each leads from the lists of one kind to those of
 -- the other, and one after the other gives back every list that it was given.

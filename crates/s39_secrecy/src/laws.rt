@@ -20,7 +20,8 @@ ghost use Rattle.s39_backup.specs.declared.plan.Members.{Members};
 ghost use Rattle.s39_backup.specs.TwoShort.{IsTwoShort};
 ghost use Rattle.s39_split.specs.Fitting.{Fits};
 ghost use Rattle.s39_backup.specs.Correspondence.{Correspond};
-ghost use Rattle.s39_secrecy.specs.Secrecy.{CanBeAsked, AreTwoShort, AreRandomBytes, for_secret, HaveTheShare, TellNothing, Give, CorrespondOneToOne, AreDifferent, AreAll, member_points};
+ghost use Rattle.s39_backup.specs.InCommon.{for_secret, HaveTheShare};
+ghost use Rattle.s39_secrecy.specs.Secrecy.{CanBeAsked, AreTwoShort, AreRandomBytes, TellNothing, Give, CorrespondOneToOne, AreDifferent, AreAll, member_points};
 ghost use Rattle.s39_secrecy.specs.Rows.{group_of, one_group, home_and_two, family_and_two, four_groups};
 
 use s39_backup::resplit_laws::resplits_are_created_backups;

@@ -1,11 +1,12 @@
 use Rattle.std.proofs.Common.{map}
 use Rattle.std.proofs.lemmas.List.{length-map}
-use Rattle.s39_secrecy.specs.Secrecy.{Give, for_secret}
+use Rattle.s39_secrecy.specs.Secrecy.{Give}
 use Rattle.s39_secrecy.proofs.OneToOne.{as_many_give, different_there}
 use Rattle.s39_secrecy.proofs.Counts.{as_many}
 use Rattle.s39_secrecy.proofs.Listed.{listed}
 use Rattle.s39_secrecy.proofs.TwoFunctions.{from_two_functions}
 use Rattle.s39_secrecy.proofs.laws.as_many_random_bytes.Goals as goal
+use Rattle.s39_backup.specs.InCommon.{for_secret}
 
 pub returns-clause-one_to_one : goal.returns-clause-one_to_one
 returns-clause-one_to_one c = as_many_give

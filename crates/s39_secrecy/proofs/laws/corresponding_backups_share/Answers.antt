@@ -1,4 +1,4 @@
-use Rattle.s39_secrecy.proofs.KeptShares.{shares_kept, both_kept}
+use Rattle.s39_backup.proofs.KeptShares.{shares_kept, both_kept}
 use Rattle.s39_secrecy.proofs.laws.corresponding_backups_share.Goals as goal
 
 pub returns-clause-share : goal.returns-clause-share

@@ -22,12 +22,39 @@ use Rattle.s39_backup.specs.Created.{Asked, AreSplitAmong, created_share, create
 use Rattle.s39_backup.proofs.Creations.{backup_once}
 use Rattle.s39_backup.proofs.Promise.{in_created_groups}
 use Rattle.s39_backup.proofs.WholeBackups.{contains_member}
-use Rattle.s39_backup.specs.TwoShort.{is_held}
+use Rattle.s39_backup.specs.TwoShort.{is_held, held_groups}
 use Rattle.s39_backup.specs.Correspondence.{CorrespondInGroup, CorrespondInEach, Correspond}
-use Rattle.s39_secrecy.specs.Secrecy.{HaveTheShare, for_secret}
+use Rattle.s39_backup.specs.InCommon.{for_secret, HaveTheShare}
 use Rattle.s39_backup.proofs.Chosen.{kept_stay}
-use Rattle.s39_backup.proofs.HeldGroups.{has_members}
-use Rattle.s39_secrecy.proofs.Backups.{HeldAreSame, held-first, held-later, held_same}
+use Rattle.s39_backup.proofs.HeldGroups.{has_members, held-among}
+
+-- the share of each held group, from this one on, is the same
+abbrev pub HeldAreSame : Names → ℕ → List Members → List (List ℕ) → List (List ℕ) → Type 0
+HeldAreSame names group groups shares others = (i : ℕ) (d : Members) → i < length groups
+    → is_held names (group + i, get_or groups i d) ≡ true
+    → slice_get shares i ≡ slice_get others i
+
+-- the same of the groups after the first
+pub held-later : (names : Names) (group : ℕ) (members : Members) (groups : List Members) (share other : List ℕ) (shares others : List (List ℕ))
+    → HeldAreSame names group (members ∷ groups) (share ∷ shares) (other ∷ others) → HeldAreSame names (group + 1) groups shares others
+held-later names group members groups share other shares others held i d within is =
+    let place : (group + 1) + i ≡ group + suc i = omega arith in
+    held (suc i) d (omega arith) (subst (λ (g : ℕ). is_held names (g, get_or groups i d) ≡ true) place is)
+
+-- and of the first
+pub held-first : (names : Names) (group : ℕ) (members : Members) (groups : List Members) (share other : List ℕ) (shares others : List (List ℕ))
+    → HeldAreSame names group (members ∷ groups) (share ∷ shares) (other ∷ others) → is_held names (group, members) ≡ true → share ≡ other
+held-first names group members groups share other shares others held is =
+    let place : group ≡ group + 0 = omega arith in
+    some_same share other (held 0 members (omega arith) (subst (λ (g : ℕ). is_held names (g, members) ≡ true) place is))
+
+-- the held groups have the same shares
+pub held_same : (names : Names) (groups : List Members) (shares others : List (List ℕ))
+    → All (λ index. slice_get shares index ≡ slice_get others index) (held_groups names groups) → HeldAreSame names 0 groups shares others
+held_same names groups shares others same i d within is =
+    let here : 0 + i ≡ i = omega arith in
+    let at = All-contains (λ j. slice_get shares j ≡ slice_get others j) (held_groups names groups) (0 + i) same (held-among names groups i d within is) in
+    ap (slice_get shares) (sym here) ∙ at ∙ ap (slice_get others) here
 
 -- the shares with these names are the same in each group from this one on
 abbrev pub AreSameAmong : Names → ℕ → List (List (List ℕ)) → List (List (List ℕ)) → Type 0
