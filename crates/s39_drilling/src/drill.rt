@@ -82,9 +82,7 @@ impl From<NoDrill> for Fault {
 /// The first error that applies is returned, and then nothing is written:
 ///
 /// - `Passphrase` if a byte of the passphrase isn't printable ASCII, before anything is read;
-/// - the first refused line, with its number: a word error, `TooLong` if it has more than 1,024 bytes, or `Set` if its
-///   share can't join those of the lines before it;
-/// - `Device(Read)` if a read fails; an unfinished line is then dropped, unless it is too long already;
+/// - what `s39_input::read_set` refuses: a line, or a failed read;
 /// - `Lack` if the shares have no quorum;
 /// - `NotAQuorum` if the given names aren't a quorum of the shares.
 ///
@@ -203,40 +201,41 @@ fn list_from<W: Write, P: Watch>(
         write_text(output, last_line(None).as_slice())?;
         return Ok(Done { mismatches: 0 });
     };
-    write_drill(form, set, quorum, passphrase, limit, output, watch)
+    let mut memo = Memo::new(passphrase, params_of(set, &quorum));
+    write_drill(form, set, quorum, &mut memo, limit, output, watch)
 }
 
-/// Writes the lines of a drill that starts at this quorum, the last line too, and tells how many quorums are listed.
+/// Writes the lines of a drill that starts at this quorum, the last line too, and tells how many quorums are listed. It has no
+/// passphrase but that of the memo, so one memo serves all quorums.
 fn write_drill<W: Write, P: Watch>(
     form: SecretForm,
     set: &ShareSet,
     start: Quorum,
-    passphrase: &[u8],
+    memo: &mut Memo<'_>,
     limit: u32,
     output: &mut Counting<W>,
     watch: &mut P,
 ) -> Result<Done, WriteFailed>
     requires is_set { IsShareSet set.now }
     requires quorum { IsQuorum set.now start }
-    requires printable { All IsPrintable passphrase.now }
+    requires params { AreParams set.now memo.old.params }
     requires some { 1 ≤ limit }
     requires writable { output.old.failures < u64.MAX }
     ensures lines { (after : Option Names) → IsFirstQuorumAfter set.now after start
-        → WritesDrill W.contents output.old form set.now passphrase.now after limit result output.new }
+        → WritesDrill W.contents output.old form set.now memo.old.passphrase after limit result output.new }
     ensures seen { (after : Option Names) (listed : List Names)
         → IsFirstQuorumAfter set.now after start → IsListing set.now after limit listed
         → SeesListing P.counts
-        (WritesFirst W.contents output.old output.new form set.now passphrase.now)
+        (WritesFirst W.contents output.old output.new form set.now memo.old.passphrase)
         listed result watch.old watch.new }
 {
     drill_laws();
-    let mut memo = Memo::new(passphrase, params_of(set, &start));
     let mut looks = Looks::new();
     let mut quorum = start;
     let mut mismatches = 0;
     let mut left = limit;
     loop {
-        let outcome = outcome_of(set, &quorum, &mut memo);
+        let outcome = outcome_of(set, &quorum, memo);
         write_text(output, quorum_line(form, &quorum, &outcome).as_slice())?;
         mismatches += mismatch_in(form, &outcome);
         left -= 1;

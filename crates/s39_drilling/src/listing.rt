@@ -74,7 +74,10 @@ pub fn drill_set(
 {
     listings_join();
     match start_in(set, after)? {
-        Some(start) => Ok(fill(form, set, start, passphrase, limit, text)?),
+        Some(start) => {
+            let mut memo = Memo::new(passphrase, params_of(set, &start));
+            Ok(fill(form, set, start, &mut memo, limit, text)?)
+        }
         None => Ok(put_end(text)?),
     }
 }
@@ -104,26 +107,26 @@ fn put_end(text: &mut [u8]) -> Result<Listing, TooShort>
     Ok(ended(text, 0, &end, 0, 0))
 }
 
-/// Puts the drill of a set that starts at this quorum at the front of a slice.
+/// Puts the drill of a set that starts at this quorum at the front of a slice. It has no passphrase but that of the memo, so one
+/// memo serves all quorums.
 fn fill(
     form: SecretForm,
     set: &ShareSet,
     start: Quorum,
-    passphrase: &[u8],
+    memo: &mut Memo<'_>,
     limit: u32,
     text: &mut [u8],
 ) -> Result<Listing, TooShort>
     requires is_set { IsShareSet set.now }
     requires quorum { IsQuorum set.now start }
-    requires printable { All IsPrintable passphrase.now }
+    requires params { AreParams set.now memo.old.params }
     requires some { 1 ≤ limit }
     ensures { (after : Option Names) → IsFirstQuorumAfter set.now after start
-        → Fills form set.now passphrase.now after limit text.old text.new result }
+        → Fills form set.now memo.old.passphrase after limit text.old text.new result }
 {
     drill_laws();
-    let mut memo = Memo::new(passphrase, params_of(set, &start));
     let mut looks = Looks::new();
-    let first = try_quorum(form, set, &start, &mut memo, &mut looks);
+    let first = try_quorum(form, set, &start, memo, &mut looks);
     let mut written = put_line(text, 0, &first)?;
     let mut mismatches = first.mismatches;
     let mut last = first.last;
@@ -133,7 +136,7 @@ fn fill(
         let Some(quorum) = next else {
             break;
         };
-        let tried = try_quorum(form, set, &quorum, &mut memo, &mut looks);
+        let tried = try_quorum(form, set, &quorum, memo, &mut looks);
         let Ok(end) = put_line(text, written, &tried) else {
             break;
         };

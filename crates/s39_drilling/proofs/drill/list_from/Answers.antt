@@ -56,4 +56,9 @@ returns-in_default-clause-seen g c = λ after listed next is.
     subst (λ (l : List Names). AreSeen g.P.Watch.counts (length l) c.args.watch.now c.args.watch.now) same refl
 
 pub returns-clause-seen : goal.returns-clause-seen
-returns-clause-seen g c = λ after listed next is. c.write_drill.ensures.seen after listed (subst (IsNext c.args.set.now after) c.in-Some.is next) is
+returns-clause-seen g c = λ after listed next is.
+    rw c.new-memo.ensures.passphrase at c.write_drill.ensures.seen after listed (subst (IsNext c.args.set.now after) c.in-Some.is next) is
+
+pub returns-clause-lines : goal.returns-clause-lines
+returns-clause-lines g c = λ after next.
+    rw c.new-memo.ensures.passphrase at c.write_drill.ensures.lines after (subst (IsNext c.args.set.now after) c.in-Some.is next)

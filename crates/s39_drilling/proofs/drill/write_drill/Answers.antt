@@ -24,9 +24,9 @@ loop-outcome-init g c = record {
   some = c.requires.some;
   counted = omega arith;
   looks = omega (arith, c.new-looks.ensures);
-  passphrase = c.new-memo.ensures.passphrase;
-  params = rw c.new-memo.ensures.params c.params_of.ensures;
-  counting = counting_starts c.args.output.now c.args.set.now c.args.passphrase.now c.args.start c.args.limit;
+  passphrase = refl;
+  params = c.requires.params;
+  counting = counting_starts c.args.output.now c.args.set.now c.args.memo.now.passphrase c.args.start c.args.limit;
   seen =
       let none : 0 ≡ c.args.limit - c.args.limit = omega arith in
       subst (λ (n : ℕ). AreSeen g.P.Watch.counts n c.args.watch.now c.args.watch.now) none refl;
@@ -38,14 +38,14 @@ module _ (g : Over) (c : After-write_text g) where
   outcome = in_bytes c.outcome_of-outcome.result
 
   -- the text before it
-  drilling : IsDrilling g.W.Write.contents c.args.output.now c.loop-outcome.output c.args.form c.args.set.now c.args.passphrase.now c.args.start c.args.limit
+  drilling : IsDrilling g.W.Write.contents c.args.output.now c.loop-outcome.output c.args.form c.args.set.now c.args.memo.now.passphrase c.args.start c.args.limit
       c.loop-outcome.quorum (suc (c.loop-outcome.left - 1)) c.loop-outcome.mismatches
   drilling =
       let inv = c.loop-outcome.invariant in
-      subst (λ n. IsDrilling g.W.Write.contents c.args.output.now c.loop-outcome.output c.args.form c.args.set.now c.args.passphrase.now
+      subst (λ n. IsDrilling g.W.Write.contents c.args.output.now c.loop-outcome.output c.args.form c.args.set.now c.args.memo.now.passphrase
       c.args.start c.args.limit c.loop-outcome.quorum n c.loop-outcome.mismatches) (omega (arith, inv.some)) inv.drilling
 
-  is_outcome : IsOutcome c.args.set.now c.loop-outcome.quorum c.args.passphrase.now outcome
+  is_outcome : IsOutcome c.args.set.now c.loop-outcome.quorum c.args.memo.now.passphrase outcome
   is_outcome =
       subst (λ p. IsOutcome c.args.set.now c.loop-outcome.quorum p outcome) c.loop-outcome.invariant.passphrase c.outcome_of-outcome.ensures.outcome
 
@@ -53,11 +53,11 @@ module _ (g : Over) (c : After-write_text g) where
   line = c.as_slice.ensures.value ∙ c.quorum_line.ensures
 
   -- it is the next that is listed
-  counting : IsCounting g.W.Write.contents c.args.output.now c.loop-outcome.output c.args.form c.args.set.now c.args.passphrase.now c.args.start
+  counting : IsCounting g.W.Write.contents c.args.output.now c.loop-outcome.output c.args.form c.args.set.now c.args.memo.now.passphrase c.args.start
       c.args.limit c.loop-outcome.quorum (suc (c.loop-outcome.left - 1))
   counting =
       let inv = c.loop-outcome.invariant in
-      subst (λ n. IsCounting g.W.Write.contents c.args.output.now c.loop-outcome.output c.args.form c.args.set.now c.args.passphrase.now c.args.start
+      subst (λ n. IsCounting g.W.Write.contents c.args.output.now c.loop-outcome.output c.args.form c.args.set.now c.args.memo.now.passphrase c.args.start
       c.args.limit c.loop-outcome.quorum n) (omega (arith, inv.some)) inv.counting
 
 -- what is known of the last line
@@ -72,8 +72,8 @@ module _ (g : Over) (c : After-write_text-then-left-eq0 g) where
   ]
 
   -- no line comes before it
-  over : IsDrill c.args.form c.args.set.now c.args.passphrase.now (Some c.loop-outcome.quorum) (c.loop-outcome.left - 1) [] more 0
-  over = drill_over c.drill_laws.ensures c.args.set.now c.args.passphrase.now c.requires.is_set c.loop-outcome.quorum c.following-next.result
+  over : IsDrill c.args.form c.args.set.now c.args.memo.now.passphrase (Some c.loop-outcome.quorum) (c.loop-outcome.left - 1) [] more 0
+  over = drill_over c.drill_laws.ensures c.args.set.now c.args.memo.now.passphrase c.requires.is_set c.loop-outcome.quorum c.following-next.result
       (c.loop-outcome.left - 1) c.following-next.ensures.next done
 
   -- no quorum is listed after it

@@ -8,13 +8,13 @@ use Rattle.s39_drilling.proofs.drill.write_drill.Given as goal
 
 abbrev pub invariant-loop-outcome : goal.invariant-loop-outcome
 invariant-loop-outcome g l = record {
-  drilling : IsDrilling g.W.Write.contents l.fn.output l.output l.form l.set l.passphrase l.fn.start l.limit l.quorum l.left l.mismatches;
+  drilling : IsDrilling g.W.Write.contents l.fn.output l.output l.form l.set l.fn.memo.passphrase l.fn.start l.limit l.quorum l.left l.mismatches;
   some : 1 ≤ l.left;
   counted : l.mismatches + l.left ≤ l.limit;
   looks : l.looks + most_step_looks * l.left ≤ most_step_looks * (l.limit + 1);
-  passphrase : l.memo.passphrase ≡ l.passphrase;
+  passphrase : l.memo.passphrase ≡ l.fn.memo.passphrase;
   params : AreParams l.set l.memo.params;
-  counting : IsCounting g.W.Write.contents l.fn.output l.output l.form l.set l.passphrase l.fn.start l.limit l.quorum l.left;
+  counting : IsCounting g.W.Write.contents l.fn.output l.output l.form l.set l.fn.memo.passphrase l.fn.start l.limit l.quorum l.left;
   seen : AreSeen g.P.Watch.counts (l.limit - l.left) l.fn.watch l.watch;
 }
 

@@ -13,14 +13,16 @@ pub returns-in_ok-fill-in-Some : goal.returns-in_ok-fill-in-Some
 returns-in_ok-fill-in-Some c =
     fills_lists c.listings_join.ensures.none c.args.form c.args.passphrase.now (option_copied c.args.after) c.args.set.now c.in_ok-start.field-0
     c.in_ok-start.ensures.starts c.args.limit c.args.text.now
-    c.fill.new.text c.in-Some.start c.in-Some.is (Ok c.in_ok-fill-in-Some.field-0) c.in_ok-fill-in-Some.ensures
+    c.fill.new.text c.in-Some.start c.in-Some.is (Ok c.in_ok-fill-in-Some.field-0)
+    (rw c.new-memo.ensures.passphrase at c.in_ok-fill-in-Some.ensures)
 
 pub returns-in_err-fill-in-Some : goal.returns-in_err-fill-in-Some
 returns-in_err-fill-in-Some c =
     let p = err_from_is_err_and c.from_residual-in_err-fill-in-Some.result c.from_residual-in_err-fill-in-Some.ensures.1 in
     rw (p.1, p.2) (fills_lists c.listings_join.ensures.none c.args.form c.args.passphrase.now (option_copied c.args.after) c.args.set.now
     c.in_ok-start.field-0 c.in_ok-start.ensures.starts c.args.limit c.args.text.now
-    c.fill.new.text c.in-Some.start c.in-Some.is (Err c.in_err-fill-in-Some.field-0.0) c.in_err-fill-in-Some.ensures)
+    c.fill.new.text c.in-Some.start c.in-Some.is (Err c.in_err-fill-in-Some.field-0.0)
+    (rw c.new-memo.ensures.passphrase at c.in_err-fill-in-Some.ensures))
 
 pub returns-in_ok-put_end-in-None : goal.returns-in_ok-put_end-in-None
 returns-in_ok-put_end-in-None c =

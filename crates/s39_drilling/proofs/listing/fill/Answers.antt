@@ -11,7 +11,7 @@ returns-in_err-written c after first =
     let p = err_from_is_err_and c.from_residual.result c.from_residual.ensures.1 in
     rw (p.1, p.2) (
       first_too_long c.drill_laws.ensures c.requires.is_set (length c.args.text.now) c.in_err-written.field-0.0.needed first
-          (rw c.new-memo.ensures.passphrase at c.try_quorum-first.ensures.tried) (omega (arith, is_needed)) short,
+          c.try_quorum-first.ensures.tried (omega (arith, is_needed)) short,
       same,
     )
 
@@ -25,13 +25,13 @@ loop-left-init c =
     let one : 1 ≡ c.args.limit - (c.args.limit - 1) = omega (arith, some) in
     record {
       filling =
-          rw one at (filling_starts c.drill_laws.ensures (rw c.new-memo.ensures.passphrase at c.try_quorum-first.ensures.tried) put
+          rw one at (filling_starts c.drill_laws.ensures c.try_quorum-first.ensures.tried put
           (omega (arith, is_end)) room);
       some = omega (arith, some);
       counted = omega (arith, some, few);
       looks = omega (arith, looks, before, some);
-      passphrase = c.try_quorum-first.ensures.passphrase ∙ c.new-memo.ensures.passphrase;
-      params = rw (c.try_quorum-first.ensures.params, c.new-memo.ensures.params) c.params_of.ensures;
+      passphrase = c.try_quorum-first.ensures.passphrase;
+      params = rw c.try_quorum-first.ensures.params c.requires.params;
     }
 
 pub loop-left-preserved : goal.loop-left-preserved

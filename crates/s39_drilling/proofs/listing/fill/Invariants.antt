@@ -6,11 +6,11 @@ use Rattle.s39_drilling.proofs.listing.fill.Given as goal
 
 abbrev pub invariant-loop-left : goal.invariant-loop-left
 invariant-loop-left l = record {
-  filling : IsFilling l.fn.form l.set l.passphrase l.fn.start (l.limit - l.left) l.fn.text l.text l.last.items l.written l.next l.mismatches;
+  filling : IsFilling l.fn.form l.set l.fn.memo.passphrase l.fn.start (l.limit - l.left) l.fn.text l.text l.last.items l.written l.next l.mismatches;
   some : l.left + 1 ≤ l.limit;
   counted : l.mismatches + l.left ≤ l.limit;
   looks : l.looks + most_step_looks * l.left ≤ most_step_looks * (l.limit + 1);
-  passphrase : l.memo.passphrase ≡ l.passphrase;
+  passphrase : l.memo.passphrase ≡ l.fn.memo.passphrase;
   params : AreParams l.set l.memo.params;
 }
 
