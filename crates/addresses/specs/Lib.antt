@@ -1,2 +1,4 @@
 pub mod Bitcoin
 pub mod Ethereum
+pub mod Taproot
+pub mod Address

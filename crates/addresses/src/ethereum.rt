@@ -20,7 +20,7 @@ pub fn ethereum_address(coordinates: &[u8; 64]) -> ArrayVec<u8, ETHEREUM_ADDRESS
 }
 
 /// The last 20 bytes of the digest of both coordinates.
-fn account(coordinates: &[u8; 64]) -> [u8; 20]
+pub(crate) fn account(coordinates: &[u8; 64]) -> [u8; 20]
     ensures { result ≡ account coordinates.now }
 {
     let digest = keccak256(coordinates);

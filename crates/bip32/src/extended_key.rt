@@ -46,6 +46,17 @@ impl ExtendedKey {
         key_from(self.key, &self.child_mac(index))
     }
 
+    /// Returns the normal child of this index, by the key's own public key.
+    pub(crate) fn normal_child(&self, public_key: &[u8; 33], index: u32) -> Option<ExtendedKey>
+        requires public { public_key.now ≡ public_bytes self.now.key }
+        requires normal { index < HARDENED }
+        ensures { result ≡ child self.now index }
+    {
+        let number = index.to_be_bytes();
+        let mac = hmac_sha512(&[&self.chain_code], &[public_key, &number]);
+        key_from(self.key, &mac)
+    }
+
     fn child_mac(&self, index: u32) -> [u8; 64]
         ensures { result ≡ hmac_sha512 self.now.chain_code (child_data self.now.key index) }
     {

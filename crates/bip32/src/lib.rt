@@ -4,6 +4,8 @@
 mod extended_key;
 pub mod laws;
 mod node;
+mod parent;
 
 pub use extended_key::{ExtendedKey, HARDENED};
 pub use node::{Node, SERIALIZED_BYTES};
+pub use parent::Parent;

@@ -3,3 +3,4 @@ pub mod Multiples
 pub mod Compressed
 pub mod OnCurve
 pub mod Jacobian
+pub mod Lifted

@@ -3,11 +3,13 @@
 
 mod jacobian;
 pub mod laws;
+mod lifting;
 mod point;
 mod public_key;
 mod secret;
 
 pub use jacobian::multiple;
+pub use lifting::lift_x;
 pub use point::{Affine, Point, generator};
 pub use public_key::{compressed, public_point};
 pub use secret::secret_multiple;

@@ -1,8 +1,11 @@
 //! Tests of `curve_field` and `curve_points`, and the examples of their doc comments. The multiples of the generator are
-//! published ones, and two of a plain program in Python, which computes the published ones too.
+//! published ones, and two of a plain program in Python, which computes the published ones too. The keys that no point has are
+//! those of BIP-340's test vectors 5 and 14.
 use crate::expect::equal;
 use curve_field::{FieldElement, Scalar};
-use curve_points::{Affine, Point, compressed, generator, multiple, public_point, secret_multiple};
+use curve_points::{
+    Affine, Point, compressed, generator, lift_x, multiple, public_point, secret_multiple,
+};
 use std::test::Fail;
 
 fn scalar(bytes: &[u8; 32]) -> Result<Scalar, Fail> {
@@ -18,6 +21,7 @@ fn elements(rt: HostRuntime) {
     let three = FieldElement::from_words(0, 0, 0, 3);
     assert!(rt; seven.mul(seven.inverse()).is(FieldElement::one()));
     assert!(rt; three.sub(seven).add(seven).is(three));
+    assert!(rt; FieldElement::from_bytes(&[255; 32]).is_none());
     let nine = three.mul(three);
     let root = nine.square_root();
     assert!(rt; root.mul(root).is(nine));
@@ -78,6 +82,30 @@ fn multiples(rt: HostRuntime) -> Result<(), Fail> {
     );
     Ok(())
 }
+
+#[test]
+fn lifted_points(rt: HostRuntime) {
+    let lifted = lift_x(generator().x).expect(&rt, "a point has this x");
+    assert!(rt; lifted.y.is(generator().y));
+    assert!(rt; lift_x(FieldElement::from_words(0, 0, 0, 5)).is_none());
+    for (_, wanted) in MULTIPLES {
+        let mut bytes = [0; 32];
+        bytes.copy_from_slice(&wanted[1..33]);
+        let x = FieldElement::from_bytes(&bytes).expect(&rt, "an element");
+        let point = lift_x(x).expect(&rt, "a point has this x");
+        assert!(rt; point.x.to_bytes() == bytes);
+        equal(&rt, point.y.parity(), 0);
+    }
+    let on_no_point = FieldElement::from_bytes(NO_POINT).expect(&rt, "an element");
+    assert!(rt; lift_x(on_no_point).is_none());
+    assert!(rt; FieldElement::from_bytes(PRIME_AND_ONE).is_none());
+}
+
+const NO_POINT: &[u8; 32] =
+    b"\xee\xfd\xea\x4c\xdb\x67\x77\x50\xa4\x20\xfe\xe8\x07\xea\xcf\x21\xeb\x98\x98\xae\x79\xb9\x76\x87\x66\xe4\xfa\xa0\x4a\x2d\x4a\x34";
+
+const PRIME_AND_ONE: &[u8; 32] =
+    b"\xff\xff\xff\xff\xff\xff\xff\xff\xff\xff\xff\xff\xff\xff\xff\xff\xff\xff\xff\xff\xff\xff\xff\xff\xff\xff\xff\xfe\xff\xff\xfc\x30";
 
 const ORDER: [u8; 32] =
     *b"\xff\xff\xff\xff\xff\xff\xff\xff\xff\xff\xff\xff\xff\xff\xff\xfe\xba\xae\xdc\xe6\xaf\x48\xa0\x3b\xbf\xd2\x5e\x8c\xd0\x36\x41\x41";

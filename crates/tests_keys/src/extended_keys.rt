@@ -1,6 +1,6 @@
 //! Tests of `bip32`, and the examples of its doc comments. The values are BIP-32's test vectors, and accounts of the seed of
 //! BIP-84's and BIP-86's examples, whose public keys these print.
-use bip32::{ExtendedKey, HARDENED, Node};
+use bip32::{ExtendedKey, HARDENED, Node, Parent};
 use std::process::Abort;
 use std::test::Fail;
 
@@ -37,6 +37,18 @@ fn examples(rt: HostRuntime) -> Result<(), Fail> {
         &node.serialized_public(0x0488_b21e)[..5],
         b"\x04\x88\xb2\x1e\x02".as_slice()
     );
+    Ok(())
+}
+
+#[test]
+fn children_of_a_parent(rt: HostRuntime) -> Result<(), Fail> {
+    let seed = b"\x00\x01\x02\x03\x04\x05\x06\x07\x08\x09\x0a\x0b\x0c\x0d\x0e\x0f";
+    let master = some(ExtendedKey::master(seed))?;
+    let parent = Parent::new(some(master.at(&[HARDENED]))?);
+    let second = some(parent.child(1))?;
+    assert_eq!(rt; &second.fingerprint(), b"\xbe\xf5\xa2\xf9");
+    let third = some(Parent::new(second).child(HARDENED + 2))?;
+    assert_eq!(rt; &third.fingerprint(), b"\xee\x7a\xb9\x0c");
     Ok(())
 }
 

@@ -1,6 +1,10 @@
 //! Tests of `addresses`. Their values come from outside: accounts of the seed of BIP-84's example, whose public keys a plain program in
-//! Python computes, and the examples of ERC-55.
-use addresses::{erc55, ethereum_address, p2pkh, p2sh_p2wpkh, p2wpkh};
+//! Python computes, BIP-341's vector of a key with no script, BIP-86's examples,
+//! those of ERC-55, and the well-known addresses of the private key 1.
+use addresses::{
+    Address, Kind, erc55, ethereum_address, output_key, p2pkh, p2sh_p2wpkh, p2tr, p2wpkh,
+};
+use curve_points::{Point, generator};
 
 #[test]
 fn hashes_of_keys(rt: HostRuntime) {
@@ -87,6 +91,76 @@ fn programs(rt: HostRuntime) {
     for (key, address) in cases {
         assert!(rt; p2wpkh(key).as_slice() == address);
     }
+}
+
+#[test]
+fn output_keys(rt: HostRuntime) {
+    let cases: [(&[u8; 32], &[u8; 32], &[u8]); 4] = [
+        (
+            b"\xd6\x88\x9c\xb0\x81\x03\x6e\x0f\xae\xfa\x3a\x35\x15\x7a\xd7\x10\
+              \x86\xb1\x23\xb2\xb1\x44\xb6\x49\x79\x8b\x49\x4c\x30\x0a\x96\x1d",
+            b"\x53\xa1\xf6\xe4\x54\xdf\x1a\xa2\x77\x6a\x28\x14\xa7\x21\x37\x2d\
+              \x62\x58\x05\x0d\xe3\x30\xb3\xc6\xd1\x0e\xe8\xf4\xe0\xdd\xa3\x43",
+            b"bc1p2wsldez5mud2yam29q22wgfh9439spgduvct83k3pm50fcxa5dps59h4z5",
+        ),
+        (
+            b"\xcc\x8a\x4b\xc6\x4d\x89\x7b\xdd\xc5\xfb\xc2\xf6\x70\xf7\xa8\xba\
+              \x0b\x38\x67\x79\x10\x6c\xf1\x22\x3c\x6f\xc5\xd7\xcd\x6f\xc1\x15",
+            b"\xa6\x08\x69\xf0\xdb\xcf\x1d\xc6\x59\xc9\xce\xcb\xaf\x80\x50\x13\
+              \x5e\xa9\xe8\xcd\xc4\x87\x05\x3f\x1d\xc6\x88\x09\x49\xdc\x68\x4c",
+            b"bc1p5cyxnuxmeuwuvkwfem96lqzszd02n6xdcjrs20cac6yqjjwudpxqkedrcr",
+        ),
+        (
+            b"\x83\xdf\xe8\x5a\x31\x51\xd2\x51\x72\x90\xda\x46\x1f\xe2\x81\x55\
+              \x91\xef\x69\xf2\xb1\x8a\x2c\xe6\x3f\x01\x69\x7a\x8b\x31\x31\x45",
+            b"\xa8\x2f\x29\x94\x4d\x65\xb8\x6a\xe6\xb5\xe5\xcc\x75\xe2\x94\xea\
+              \xd6\xc5\x93\x91\xa1\xed\xc5\xe0\x16\xe3\x49\x8c\x67\xfc\x7b\xbb",
+            b"bc1p4qhjn9zdvkux4e44uhx8tc55attvtyu358kutcqkudyccelu0was9fqzwh",
+        ),
+        (
+            b"\x39\x9f\x1b\x2f\x43\x93\xf2\x9a\x18\xc9\x37\x85\x9c\x5d\xd8\xa7\
+              \x73\x50\x10\x31\x57\xeb\x88\x0f\x02\xe8\xc0\x82\x14\x27\x7c\xef",
+            b"\x88\x2d\x74\xe5\xd0\x57\x2d\x5a\x81\x6c\xef\x00\x41\xa9\x6b\x6c\
+              \x1d\xe8\x32\xf6\xf9\x67\x6d\x96\x05\xc4\x4d\x5e\x9a\x97\xd3\xdc",
+            b"bc1p3qkhfews2uk44qtvauqyr2ttdsw7svhkl9nkm9s9c3x4ax5h60wqwruhk7",
+        ),
+    ];
+    for (internal, output, address) in cases {
+        assert!(rt; output_key(internal) == Some(*output));
+        let text = p2tr(internal).expect(&rt, "an address");
+        assert!(rt; text.as_slice() == address);
+    }
+    assert!(rt; output_key(&[0; 32]).is_none());
+    assert!(rt; p2tr(&[255; 32]).is_none());
+}
+
+#[test]
+fn addresses_of_the_generator(rt: HostRuntime) {
+    let address = Address::P2wpkh(
+        *b"\x75\x1e\x76\xe8\x19\x91\x96\xd4\x54\x94\x1c\x45\xd1\xb3\xa3\x23\xf1\x43\x3b\xd6",
+    );
+    assert!(rt;
+        address.text().as_slice() == b"bc1qw508d6qejxtdg4y5r3zarvary0c5xw7kv8f3t4".as_slice()
+    );
+    let key = Point::Finite(generator());
+    assert!(rt; Address::of(Kind::P2wpkh, &key) == Some(address));
+    let cases: [(Kind, &[u8]); 4] = [
+        (Kind::P2pkh, b"1BgGZ9tcN4rm9KBzDn7KprQz87SZ26SAMH"),
+        (Kind::P2shP2wpkh, b"3JvL6Ymt8MVWiCNHC7oWU6nLeHNJKLZGLN"),
+        (
+            Kind::P2tr,
+            b"bc1pmfr3p9j00pfxjh0zmgp99y8zftmd3s5pmedqhyptwy6lm87hf5sspknck9",
+        ),
+        (
+            Kind::Ethereum,
+            b"0x7E5F4552091A69125d5DfCb7b8C2659029395Bdf",
+        ),
+    ];
+    for (kind, text) in cases {
+        let address = Address::of(kind, &key).expect(&rt, "the generator has an address");
+        assert!(rt; address.text().as_slice() == text);
+    }
+    assert!(rt; Address::of(Kind::P2pkh, &Point::Infinity).is_none());
 }
 
 #[test]
