@@ -189,5 +189,6 @@ class NotPure(Distribution):
 
 for terms in TERMS:
     copied(terms, HERE)
+# If there is a script, whatever its name is, setuptools builds scripts.
 commands = {"build_py": WithTexts, "build_ext": OfPlainC, "build_scripts": WithProgram, "sdist": WithSources, "bdist_wheel": OfPlatform}
 setup(distclass=NotPure, cmdclass=commands, ext_modules=libraries(), scripts=["shamir"])
