@@ -15,15 +15,15 @@ use Rattle.s39_command.specs.Jobs.{or_empty}
 use Rattle.s39_command.proofs.Faults.{one_fault}
 use Rattle.s39_command.proofs.OneCall.{one_call, said_same}
 use Rattle.s39_cli.specs.declared.values.Until.{Until}
-use Rattle.s39_cli.specs.declared.values.Until.TheVariants.{End, LineEnd}
+use Rattle.s39_cli.specs.declared.values.Until.TheVariants.{LineEnd}
 use Rattle.s39_cli.specs.Ending.{AreAllOf, Delivers, DoesDrawn, DoesJob, EndsAs, EndsAtOnce, IsDoneWith, IsOutcome, IsTyped, TakesCall}
 use Rattle.s39_cli.specs.Headline.{OneOutcome}
 use Rattle.s39_cli.specs.OneEnding.{OneEnding, SomeEnding, telling}
 use Rattle.s39_cli.specs.Outcome.{GivesPlan, HasBadSecret, HasBadPlan, HasBadCursor, HasBadFingerprint, HasBadNames, IsNotHexadecimal, IsReady}
 use Rattle.s39_cli.specs.Outcome.{WritesFingerprint, WritesNames}
-use Rattle.s39_cli.specs.Values.{HasLong, HasLongValue, IsLongFile, IsLongLine, IsValueIn, TakesValue, TakesValues, part, text_of}
+use Rattle.s39_cli.specs.Values.{HasLong, HasLongValue, IsLongFile, IsLongLine, IsValueIn, TakesValue, TakesValues, end_in, part, text_of}
 use Rattle.s39_cli.specs.Values.{without_line_end}
-use Rattle.s39_cli.proofs.SameValues.{same_done, same_values_write_the_same}
+use Rattle.s39_cli.proofs.SameValues.{same_done, same_typed, same_values_write_the_same}
 use Rattle.s39_cli.proofs.Works.{no_cause}
 
 -- ---- a value
@@ -80,8 +80,8 @@ module _ {R : Type 0} (files : Text → List ℕ) (remaining : R → Option (Lis
       absurd (file.0 (sym (said_same same) ∙ line.0))
   one_take (Some a) (Some b) v w old new first last same alike (read, is, inr file) (got, also, inl line) = absurd (file.0 (said_same same ∙ line.0))
   one_take (Some a) (Some b) v w old new first last same alike (read, is, inr file) (got, also, inr next) =
-      let x = subst (λ (name : Text). IsValueIn End (Some (files name)) file.2.0 read) (said_same same) file.2.1 in
-      let pair = one_value End (files b.now) file.2.0 next.2.0 read got x next.2.1 in
+      let x = subst (λ (name : Text). IsValueIn (end_in name) (Some (files name)) file.2.0 read) (said_same same) file.2.1 in
+      let pair = one_value (end_in b.now) (files b.now) file.2.0 next.2.0 read got x next.2.1 in
       (is ∙ ap (λ (l : List ℕ). Some l) pair.0 ∙ sym also, (alike.0, ap remaining file.1 ∙ alike.1, ap remaining next.1 ∙ alike.2))
 
   no_long_file : (file given : Option (Bor Text)) (w : Option (List ℕ)) (first last : R) → text_in file ≡ text_in given → IsLongFile (telling files) file
@@ -90,7 +90,8 @@ module _ {R : Type 0} (files : Text → List ℕ) (remaining : R → Option (Lis
   no_long_file (Some a) None w first last same long takes = cc same
   no_long_file (Some a) (Some b) w first last same long (got, also, inl line) = long.0 (said_same same ∙ line.0)
   no_long_file (Some a) (Some b) w first last same long (got, also, inr file) =
-      not_long End (files b.now) file.2.0 got file.2.1 (subst (λ (name : Text). HasLongValue End (Some (files name))) (said_same same) long.1)
+      not_long (end_in b.now) (files b.now) file.2.0 got file.2.1
+      (subst (λ (name : Text). HasLongValue (end_in name) (Some (files name))) (said_same same) long.1)
 
   no_long_line : (file given : Option (Bor Text)) (w : Option (List ℕ)) (old first last : R) → text_in file ≡ text_in given → AreAlike old first
       → IsLongLine (telling files) remaining file old → TakesValue (telling files) remaining given w first last → ⊥
@@ -115,10 +116,6 @@ module _ {R : Type 0} (files : Text → List ℕ) (remaining : R → Option (Lis
       no_long_line texts.passphrase given.passphrase w between takes.0 last same.passphrase next.1 long takes.2
 
 -- ---- whether a job can be begun
-
-same_typed : (at_terminal : Bool) (j k : Job) → HaveSameValues j k → IsTyped at_terminal j → IsTyped at_terminal k
-same_typed at_terminal (job.Create plan e x) k (p, same, plans) typed = subst (IsTyped at_terminal) (sym same) typed
-same_typed at_terminal _ k same typed = absurd typed
 
 same_ready : (j k : Job) (s : Text) → HaveSameValues j k → IsReady j s → IsReady k s
 same_ready job.Show k s same ready = subst (λ (other : Job). IsReady other s) (sym same) ready

@@ -30,7 +30,7 @@ use Rattle.s39_cli.specs.Outcome.{HasBadPlan, IsReady, judged, status_of, status
 use Rattle.s39_cli.specs.Said.{AreDrillLines, AreLateLines, AreSomeLines, AreSomeWorkLines, AreWorkLines, HasFormlessPlan, IsAllOf, IsSaidBy, IsSaidOfJob}
 use Rattle.s39_cli.specs.Said.{IsSaidUnbegun, IsSaidUnread, IsWithin, OnStatus, Says, SaysAnswer, SaysInRun, SaysMessage}
 use Rattle.s39_cli.specs.NoWork.{IsNoWork}
-use Rattle.s39_cli.specs.Said.{bare_line, file_line, is_attended, line_if, none_line, tells_last, types_mnemonics, types_passphrase, typing_line}
+use Rattle.s39_cli.specs.Said.{bare_line, file_line, is_attended, line_if, none_line, tells_last, types_mnemonics, typing_line}
 use Rattle.s39_cli.specs.Work.{HasBadPassphrase, IsWorkOf, IsWorkOutput}
 use Rattle.s39_cli.proofs.Works.{ready_of_work}
 use Rattle.s39_cli.proofs.Formless.{formed_by_cursor, formed_by_fingerprint, formed_by_names, formed_if_other, formed_if_ready, formless_if_bad}
@@ -162,10 +162,6 @@ no_lines terminals bare job.Repair = refl
 no_lines terminals bare (job.Resplit plan file) = refl
 
 -- only at a terminal a passphrase is typed
-pub typed_passphrase : (at_terminal : Bool) (file : Option (Bor Text)) → types_passphrase at_terminal file ≡ true → at_terminal ≡ true
-typed_passphrase true file types = refl
-typed_passphrase false (Some file) types = types
-typed_passphrase false None types = types
 
 -- ---- texts one after another
 

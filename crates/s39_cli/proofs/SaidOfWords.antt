@@ -1,5 +1,5 @@
 -- What is said on standard error by the whole program.
-use Rattle.std.proofs.Common.{◌≡◌, ◌⊎◌, ◌≤◌, ◌∙◌, ◌++◌, ⊎_elim, ℕ, Bool, Bor, true, false, List, [], Option, Some, None, ap, arith, inl, inr, refl, subst, sym, true≢false}
+use Rattle.std.proofs.Common.{◌≡◌, ◌⊎◌, ◌≤◌, ◌∙◌, ◌++◌, ◌&&◌, ⊎_elim, ℕ, Bool, Bor, true, false, List, [], Option, Some, None, ap, arith, bytes_eq, cond, inl, inr, refl, subst, sym, true≢false}
 use Rattle.clap.specs.Words.{Text, fault_of, takes}
 use Rattle.s39_input.specs.Input.{Input}
 use Rattle.s39_command.specs.declared.command.BadValues.{BadValues}
@@ -7,6 +7,7 @@ use Rattle.s39_command.specs.declared.command.Call.{Call}
 use Rattle.s39_command.specs.declared.command.Job.{Job}
 use Rattle.s39_command.specs.declared.command.Job.TheVariants as job
 use Rattle.s39_command.specs.declared.command.NoJob.{NoJob}
+use Rattle.s39_command.specs.declared.command.Texts.{Texts}
 use Rattle.s39_command.specs.declared.command.NoJob.TheVariants.{Help, Refused, Values, Memory}
 use Rattle.s39_command.specs.Command.{AnswersWords, GivesCall, shamir_app}
 use Rattle.s39_command.proofs.Jobs.{asks_none}
@@ -16,9 +17,9 @@ use Rattle.s39_cli.specs.declared.runner.Ended.{Ended}
 use Rattle.s39_cli.specs.declared.runner.Ended.TheVariants.{With, NoMemory}
 use Rattle.s39_cli.specs.Ending.{IsTyped, status_in}
 use Rattle.s39_cli.specs.Said.{AreInputLines, AreLines, IsNamedIn, IsSaid, IsSaidAs, IsSaidOfCall, IsSaidOfJob, IsSaidUnread, IsSaidWithoutJob, OnStatus, Says}
-use Rattle.s39_cli.specs.Said.{file_line, is_attended, is_bare, line_if, long_line, memory_line, secret_line, shown_line, typed_line, types_mnemonics, types_passphrase, typing_line}
-use Rattle.s39_cli.specs.Values.{TakesValues, Told}
-use Rattle.s39_cli.proofs.Said.{no_lines, says_both, typed_passphrase}
+use Rattle.s39_cli.specs.Said.{asking_lines, file_line, is_attended, is_bare, line_if, long_line, memory_line, passphrase_asked_line, secret_asked_line, secret_line, typed_line, types_mnemonics, types_value, typing_line}
+use Rattle.s39_cli.specs.Values.{TakesValues, Told, input_name, terminal_name}
+use Rattle.s39_cli.proofs.Said.{no_lines, says_both}
 
 -- ---- the program
 
@@ -37,7 +38,7 @@ module _ {R E : Type 0} (told : Told) (remaining : R → Option (List ℕ)) (con
   only_memory : {W : Type 0} (ended : Ended R W) → ended ≡ NoMemory → Says contents old new memory_line
       → IsSaid told remaining contents terminals words reader old new ended
   only_memory ended none says =
-      subst (IsSaid told remaining contents terminals words reader old new) (sym none) (false, (λ comes. absurd (true≢false (sym comes))), says)
+      subst (IsSaid told remaining contents terminals words reader old new) (sym none) (record { secret = None; passphrase = None }, says)
 
   -- words that give no job
   pub said_without_job : {W : Type 0} (no_job : NoJob) (ended : Ended R W) → AnswersWords no_job words
@@ -78,18 +79,17 @@ module _ {R E : Type 0} (told : Told) (remaining : R → Option (List ℕ)) (con
           failed = λ three. absurd (omega (arith, three));
         }))
 
-    -- the line about a passphrase that is typed is said first, and then it is kept whether the command is bare
-    module _ (untyped : IsTyped terminals.input call.job → ⊥) (shown bare : Bool) (mid told_person : Person E)
-        (shown_is : shown ≡ types_passphrase terminals.input call.files.passphrase) (first : Says contents old mid (line_if shown shown_line))
+    -- values that are typed are asked for first, and then it is kept whether the command is bare
+    module _ (untyped : IsTyped terminals.input call.job → ⊥) (bare : Bool) (mid told_person : Person E)
+        (first : Says contents old mid (asking_lines terminals call.files))
         (kept : told_person ≡ record mid { is_bare = bare }) where
       -- what is said then follows it
       then : (text : Text) → Says contents told_person new text
-          → Says contents old new (line_if (types_passphrase terminals.input call.files.passphrase) shown_line ++ text)
+          → Says contents old new (asking_lines terminals call.files ++ text)
       then text says =
           let s = subst (λ (p : Person E). Says contents p new text) kept says in
-          subst (λ (b : Bool). Says contents old new (line_if b shown_line ++ text)) shown_is
-          (says_both contents old mid new (line_if shown shown_line) text first
-          (record { same_terminals = s.same_terminals; taken = s.taken; silent = s.silent }))
+          says_both contents old mid new (asking_lines terminals call.files) text first
+          (record { same_terminals = s.same_terminals; taken = s.taken; silent = s.silent })
 
       pub said_unread : {W : Type 0} (name : Text) (ended : Ended R W) → OnStatus ended (λ status. 2 ≤ status) → IsNamedIn call.files name
           → IsSaidUnread contents name told_person new ended → IsSaid told remaining contents terminals words reader old new ended
@@ -123,8 +123,7 @@ module _ {R E : Type 0} (told : Told) (remaining : R → Option (List ℕ)) (con
         where
           by_ending : {W : Type 0} (ended : Ended R W) → IsSaidOfJob remaining contents terminals (is_bare call) call.job behind told_person new ended
               → IsSaid told remaining contents terminals words reader old new ended
-          by_ending NoMemory says =
-              (types_passphrase terminals.input call.files.passphrase, typed_passphrase terminals.input call.files.passphrase, then memory_line says)
+          by_ending NoMemory says = (call.files, then memory_line says)
           by_ending (With status read_to written_to) says = by_call call found taken faultless status (record {
             done = λ none.
                 let (input, all, (late, are, is)) = says.done none in
@@ -151,9 +150,19 @@ module _ {R E : Type 0} (told : Told) (remaining : R → Option (List ℕ)) (con
 abbrev pub nobody : Terminals
 nobody = record { input = false; output = false; errors = false }
 
-no_passphrase_typed : (file : Option (Bor Text)) → types_passphrase false file ≡ false
-no_passphrase_typed (Some file) = refl
-no_passphrase_typed None = refl
+asks_for_none : (file : Option (Bor Text)) → types_value nobody file ≡ false
+asks_for_none (Some file) = by_name (bytes_eq file.now input_name) (bytes_eq file.now terminal_name)
+  where
+    by_name : (is_input is_terminal : Bool) → cond is_input false (is_terminal && false) ≡ false
+    by_name true is_terminal = refl
+    by_name false true = refl
+    by_name false false = refl
+asks_for_none None = refl
+
+no_values_asked_for : (files : Texts) → asking_lines nobody files ≡ []
+no_values_asked_for files =
+    ap (λ (b : Bool). line_if b secret_asked_line ++ line_if (types_value nobody files.passphrase) passphrase_asked_line) (asks_for_none files.secret)
+    ∙ ap (λ (b : Bool). line_if b passphrase_asked_line) (asks_for_none files.passphrase)
 
 no_mnemonics_typed : (j : Job) → types_mnemonics false j ≡ false
 no_mnemonics_typed (job.Create plan e x) = refl
@@ -166,7 +175,7 @@ no_input_lines j input text are = are
 -- nobody is told anything with exit status 0
 no_lines_at_none : (call : Call) (input : Input) (text : Text) → AreLines nobody call input text → text ≡ []
 no_lines_at_none call input text (late, (lines, are, late_is), is) =
-    is ∙ ap (λ (b : Bool). line_if b shown_line ++ (line_if (types_mnemonics false call.job) typing_line ++ late)) (no_passphrase_typed call.files.passphrase)
+    is ∙ ap (λ (asked : Text). asked ++ (line_if (types_mnemonics false call.job) typing_line ++ late)) (no_values_asked_for call.files)
     ∙ ap (λ (b : Bool). line_if b typing_line ++ late) (no_mnemonics_typed call.job)
     ∙ late_is ∙ ap (λ (l : Text). l ++ []) (no_input_lines call.job input lines are)
 

@@ -1,5 +1,5 @@
 -- Jobs with the same values write the same, and can be begun alike.
-use Rattle.std.proofs.Common.{◌≡◌, ℕ, Bool, Bor, List, IfSome, Option, Some, None, Result, subst, sym}
+use Rattle.std.proofs.Common.{◌≡◌, ◌∙◌, ℕ, Bool, Bor, List, IfSome, Option, Some, None, Result, subst, sym}
 use Rattle.clap.specs.Words.{Text}
 use Rattle.s39_set.specs.Names.{Names}
 use Rattle.s39_set.specs.Written.{IsWrittenForm}
@@ -68,6 +68,7 @@ same_ready (job.Resplit t f) k (t', f', same, plans, files) s is =
 
 pub same_typed : (at_terminal : Bool) (j k : Job) → HaveSameValues j k → IsTyped at_terminal j → IsTyped at_terminal k
 same_typed at_terminal (job.Create t e x) k (t', same, plans) is = subst (IsTyped at_terminal) (sym same) is
+same_typed at_terminal (job.Resplit t f) k (t', f', same, plans, files) is = subst (IsTyped at_terminal) (sym same) (sym files ∙ is)
 same_typed at_terminal j k same is = absurd is
 
 pub same_await : (j k : Job) → HaveSameValues j k → AwaitsRandom j → AwaitsRandom k

@@ -19,7 +19,7 @@ use Rattle.s39_cli.specs.declared.work.NoWork.TheVariants as no_work
 use Rattle.s39_command.specs.Command.{AsksForText, GivesBadValues, GivesCall, shamir_app}
 use Rattle.s39_command.specs.declared.command.BadValues.{BadValues}
 use Rattle.s39_command.specs.declared.command.Call.{Call}
-use Rattle.s39_cli.specs.Values.{AreDrawn, HasLong, LacksValue, TakesValues, Told, text_of}
+use Rattle.s39_cli.specs.Values.{AreDrawn, HasLong, LacksValue, TakesValues, Told, terminal_name, text_of}
 use Rattle.s39_cli.specs.Outcome.{GivesPlan, HasBadSecret, HasBadPlan, HasBadCursor, HasBadFingerprint, HasBadNames, IsJobOutput, IsReady, status_of}
 
 -- the text is written for the input by an answer with this exit status
@@ -30,9 +30,11 @@ HasStatus IsOutput input text status = (answer : Result Bool Fault) × IsOutput 
 abbrev pub IsOutcome : Job → Text → Text → Input → List ℕ → ℕ → Type 0
 IsOutcome job secret passphrase = HasStatus (IsJobOutput job secret passphrase)
 
--- the job creates a backup, and its random bytes would be typed at a terminal
+-- The job's random bytes would be typed: it creates a backup, and the input is a terminal, or it splits anew, and the file of its random
+-- bytes is the terminal.
 abbrev pub IsTyped : Bool → Job → Type 0
 IsTyped at_terminal (Create plan exponent extendable) = at_terminal ≡ true
+IsTyped at_terminal (Resplit plan file) = file.now ≡ terminal_name
 IsTyped at_terminal _ = ⊥
 
 -- the job takes random bytes from a file: it splits anew, and its plan is one
@@ -121,7 +123,7 @@ module _ {R W : Type 0} (told : Told) (remaining : R → Option (List ℕ)) (con
       ⊎ ((given : Text) × IsDoneWith told job secret given
       × Delivers remaining contents (IsOutcome job given passphrase) reader writer status read_to written_to)
 
-  -- The call is done. In this order: a creation whose random bytes would be typed ends with 2, and nothing is read or written; if a
+  -- The call is done. In this order: a job whose random bytes would be typed ends with 2, and nothing is read or written; if a
   -- value isn't read, the status is 2 because one is too long, or 3, and nothing is written; else the job with the values is done.
   abbrev pub TakesCall : Bool → Call → R → W → ℕ → R → W → Type 0
   TakesCall at_terminal call reader writer status read_to written_to =

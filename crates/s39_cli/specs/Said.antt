@@ -37,7 +37,7 @@ use Rattle.s39_cli.specs.declared.work.Work.{Work}
 use Rattle.s39_cli.specs.declared.work.Work.TheVariants as work
 use Rattle.s39_cli.specs.Ending.{AreAllOf, IsTyped, OnEnd}
 use Rattle.s39_cli.specs.Outcome.{IsCursor, IsReady, status_of_refusal}
-use Rattle.s39_cli.specs.Values.{TakesValues, Told, input_name}
+use Rattle.s39_cli.specs.Values.{TakesValues, Told, input_name, terminal_name}
 
 module _ {E : Type 0} (contents : E → Option (List ℕ)) where
   -- This text is said to a person at the same terminals. If the device has taken all that was said, it had taken all before, and the
@@ -53,9 +53,14 @@ line_if holds line = if holds then line else []
 
 -- ---- the lines
 
+-- said before a secret is typed
+abbrev pub secret_asked_line : Text
+secret_asked_line = codes "shamir: type the digits of the secret, then press Enter: they are shown as they are typed\n"
+
 -- said before a passphrase is typed
-abbrev pub shown_line : Text
-shown_line = codes "shamir: the passphrase is shown as it is typed\n"
+abbrev pub passphrase_asked_line : Text
+passphrase_asked_line =
+    codes "shamir: type the passphrase, then press Enter: it is shown as it is typed (docs/SCRIPTS.md says how to hide it)\n"
 
 -- said before mnemonics are typed
 abbrev pub typing_line : Text
@@ -75,7 +80,7 @@ new_secret_line = codes "shamir: shamir-papers new asks step by step; to draw a 
 
 -- said for random bytes that would be typed
 abbrev pub typed_line : Text
-typed_line = codes "shamir: random bytes aren't typed: pass them in, as with head -c N /dev/urandom | shamir create ..\n"
+typed_line = codes "shamir: random bytes aren't typed: draw them, as with head -c N /dev/urandom\n"
 
 -- said of what follows a refusal at a terminal
 abbrev pub rest_line : Text
@@ -141,11 +146,6 @@ listed_line count = codes "shamir: quorums listed: " ++ decimal count ++ codes "
 
 -- ---- when they are said
 
--- the passphrase is typed: the input is a terminal, and the passphrase is its first line
-abbrev pub types_passphrase : Bool → Option (Bor Text) → Bool
-types_passphrase at_terminal (Some file) = at_terminal && bytes_eq file.now input_name
-types_passphrase at_terminal None = false
-
 -- mnemonics are typed: the input is a terminal, and the command reads mnemonics
 abbrev pub types_mnemonics : Bool → Job → Bool
 types_mnemonics at_terminal (Create plan exponent extendable) = false
@@ -154,6 +154,18 @@ types_mnemonics at_terminal _ = at_terminal
 -- a person looks on: types the input, or sees the output or the messages
 abbrev pub is_attended : Terminals → Bool
 is_attended terminals = terminals.input || (terminals.output || terminals.errors)
+
+-- a person is asked for the value in this file: it is the first line of the input, which is a terminal, or the file is the terminal, and a
+-- person looks on
+abbrev pub types_value : Terminals → Option (Bor Text) → Bool
+types_value terminals (Some file) =
+    if bytes_eq file.now input_name then terminals.input else bytes_eq file.now terminal_name && is_attended terminals
+types_value terminals None = false
+
+-- all that is said before the values in these files are read, in their order
+abbrev pub asking_lines : Terminals → Texts → Text
+asking_lines terminals files = line_if (types_value terminals files.secret) secret_asked_line
+    ++ line_if (types_value terminals files.passphrase) passphrase_asked_line
 
 -- a person is told how many quorums a drill has listed: messages go to a terminal, and the output doesn't
 abbrev pub shows_progress : Terminals → Bool
@@ -234,7 +246,7 @@ AreLateLines terminals bare job input text =
 -- all that is said if the exit status is 0, for the input behind the values
 abbrev pub AreLines : Terminals → Call → Input → Text → Type 0
 AreLines terminals call input text = (late : Text) × AreLateLines terminals (is_bare call) call.job input late
-    × (text ≡ line_if (types_passphrase terminals.input call.files.passphrase) shown_line
+    × (text ≡ asking_lines terminals call.files
     ++ (line_if (types_mnemonics terminals.input call.job) typing_line ++ late))
 
 -- what is said before a device fails: of the set that is drilled and of some quorums, or that no passphrase was used; or nothing
@@ -283,11 +295,11 @@ abbrev pub IsFailureMessage : Text → Type 0
 IsFailureMessage text = (length text ≤ longest_message) ⊎ ((name reason : Text) × (text ≡ file_line name reason))
 
 module _ {R E : Type 0} (told : Told) (remaining : R → Option (List ℕ)) (contents : E → Option (List ℕ)) where
-  -- With exit status 0, exactly the lines of `AreLines` are said. For random bytes that would be typed it is that line. With 1 it is the line
-  -- about a passphrase that is typed, the line about mnemonics if the command began to read them, for which its texts but the passphrase had
+  -- With exit status 0, exactly the lines of `AreLines` are said. For random bytes that would be typed it is that line. With 1 it is what
+  -- asks for values that are typed, the line about mnemonics if the command began to read them, for which its texts but the passphrase had
   -- to be right, and one message, or what is said once the input is read. If the text of the plan has another form than a plan, it is that
-  -- message, and to a person which form a plan has. With 2 it is the line about such a passphrase, and what is wrong with a value. With 3 it
-  -- is both lines, what was said before the failure, and its message.
+  -- message, and to a person which form a plan has. With 2 it is what asks for values, and what is wrong with one. With 3 it is what asks
+  -- for values and mnemonics, what was said before the failure, and its message.
   pub record IsSaidOfCall (terminals : Terminals) (call : Call) (reader : R) (old new : Person E) (status : ℕ) : Type 0 where
     pub done : status ≡ 0 → (input : Input) × IsBehind told remaining call.files reader input
         × ((text : Text) × AreLines terminals call input text × Says contents old new text)
@@ -297,17 +309,14 @@ module _ {R E : Type 0} (told : Told) (remaining : R → Option (List ℕ)) (con
         × ((length text ≤ longest_message) ⊎ ((input : Input) × IsBehind told remaining call.files reader input
         × AreLateLines terminals (is_bare call) call.job input text))
         × (begun ≡ true → (secret : Text) × IsReady call.job secret)
-        × Says contents old new
-        (line_if (types_passphrase terminals.input call.files.passphrase) shown_line ++ (line_if begun typing_line ++ text))
+        × Says contents old new (asking_lines terminals call.files ++ (line_if begun typing_line ++ text))
     pub formless : status ≡ 1 → HasFormlessPlan call.job → (text : Text) × (length text ≤ longest_message)
-        × Says contents old new (line_if (types_passphrase terminals.input call.files.passphrase) shown_line
-        ++ (text ++ line_if (is_attended terminals) plan_form_line))
+        × Says contents old new (asking_lines terminals call.files ++ (text ++ line_if (is_attended terminals) plan_form_line))
     pub wrong : status ≡ 2 → IsTyped terminals.input call.job ⊎ ((text : Text) × IsValueLine call.files text
-        × Says contents old new (line_if (types_passphrase terminals.input call.files.passphrase) shown_line ++ text))
+        × Says contents old new (asking_lines terminals call.files ++ text))
     pub failed : status ≡ 3 → (begun : Bool) × (early message : Text) × IsWithin begun (types_mnemonics terminals.input call.job)
         × AreSomeLines terminals (is_bare call) call.job early × IsFailureMessage message
-        × Says contents old new (line_if (types_passphrase terminals.input call.files.passphrase) shown_line
-        ++ (line_if begun typing_line ++ (early ++ message)))
+        × Says contents old new (asking_lines terminals call.files ++ (line_if begun typing_line ++ (early ++ message)))
 
   -- Nothing is said beside help or the version. What is said of values that are missing or given twice, and of a call, is as above.
   pub record IsSaidAs (terminals : Terminals) (words : List Text) (reader : R) (old new : Person E) (status : ℕ) : Type 0 where
@@ -317,11 +326,11 @@ module _ {R E : Type 0} (told : Told) (remaining : R → Option (List ℕ)) (con
         × Says contents old new (said_of_values (is_attended terminals) bad))
         ⊎ ((call : Call) × GivesCall words call × IsSaidOfCall terminals call reader old new status)
 
-  -- If memory runs out, that is said, after the line about a passphrase that is typed, if that was said.
+  -- If memory runs out, that is said, after what asks for values, if any were asked for.
   abbrev pub IsSaid : {W : Type 0} → Terminals → List Text → R → Person E → Person E → Ended R W → Type 0
   IsSaid terminals words reader old new (With status read_to written_to) = IsSaidAs terminals words reader old new status
   IsSaid terminals words reader old new NoMemory =
-      (typed : Bool) × IsWithin typed terminals.input × Says contents old new (line_if typed shown_line ++ memory_line)
+      (files : Texts) × Says contents old new (asking_lines terminals files ++ memory_line)
 
 -- ---- within the program; no public contract cites this
 

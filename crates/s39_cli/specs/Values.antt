@@ -1,5 +1,5 @@
 -- Values of a command that stand in files, or in the first lines of the input.
-use Rattle.std.specs.Prelude.{◌≡◌, ◌≢◌, ◌⊎◌, ◌<◌, ◌≤◌, ◌+◌, ℕ, List, [], ◌∷◌, All, Option, Some, None, IfSome, codes, if◌then◌else◌, length, take, unwrap_or}
+use Rattle.std.specs.Prelude.{◌≡◌, ◌≢◌, ◌⊎◌, ◌<◌, ◌≤◌, ◌+◌, ℕ, List, [], ◌∷◌, All, Option, Some, None, IfSome, bytes_eq, codes, if◌then◌else◌, length, take, unwrap_or}
 use Rattle.std.specs.Borrow.{Bor}
 use Rattle.std.specs.Io.BufRead.{ends_with_byte, strip_last, take_through}
 use Rattle.std.specs.Io.KnownBytes.{Consumes, IsAtEnd, Keeps}
@@ -41,13 +41,21 @@ HasLongValue until told = IfSome told (λ known. longest_value < length (without
 abbrev pub input_name : Text
 input_name = codes "-"
 
+-- the name of the terminal from which a person runs the program
+abbrev pub terminal_name : Text
+terminal_name = codes "/dev/tty"
+
+-- where the value in the file of a name ends: with the first line that is typed, if the file is that terminal
+abbrev pub end_in : Text → Until
+end_in name = if bytes_eq name terminal_name then LineEnd else End
+
 -- the bytes of the file with a name, or `None` if contracts can't name them
 abbrev pub Told : Type 0
 Told = Text → Option (List ℕ)
 
--- the value stands in the bytes of a file, without the end of their line
-abbrev pub IsValueOf : Option (List ℕ) → List ℕ → Type 0
-IsValueOf told value = (left : Option (List ℕ)) × IsValueIn End told left value
+-- the value stands in the bytes of the file of this name, without the end of their line
+abbrev pub IsValueOf : Told → Text → List ℕ → Type 0
+IsValueOf told name value = (left : Option (List ℕ)) × IsValueIn (end_in name) (told name) left value
 
 module _ {R : Type 0} (told : Told) (remaining : R → Option (List ℕ)) where
   -- What is read for the file of a value, by two states of the input's reader. With no file it is nothing. The name of the input
@@ -56,7 +64,7 @@ module _ {R : Type 0} (told : Told) (remaining : R → Option (List ℕ)) where
   TakesValue None value old new = (value ≡ None) × (new ≡ old)
   TakesValue (Some file) value old new = (read : List ℕ) × (value ≡ Some read)
       × (((file.now ≡ input_name) × IsValueIn LineEnd (remaining old) (remaining new) read)
-      ⊎ ((file.now ≢ input_name) × (new ≡ old) × IsValueOf (told file.now) read))
+      ⊎ ((file.now ≢ input_name) × (new ≡ old) × IsValueOf told file.now read))
 
   -- what is read for both files: first for the secret's, and then for that of the passphrase
   abbrev pub TakesValues : Texts → Option (List ℕ) → Option (List ℕ) → R → R → Type 0
@@ -80,7 +88,7 @@ LacksValue files old new = (((files.secret ≡ None) × (files.passphrase ≡ No
 -- a file of this name, which isn't that of the input, holds more than a value may have
 abbrev pub IsLongFile : Told → Option (Bor Text) → Type 0
 IsLongFile told None = ⊥
-IsLongFile told (Some file) = (file.now ≢ input_name) × HasLongValue End (told file.now)
+IsLongFile told (Some file) = (file.now ≢ input_name) × HasLongValue (end_in file.now) (told file.now)
 
 module _ {R : Type 0} (told : Told) (remaining : R → Option (List ℕ)) where
   -- this is the name of the input, whose first line holds more than a value may have
@@ -109,7 +117,7 @@ AreDrawn told random = IfSome told (λ known. random ≡ take most_drawn known)
 abbrev pub IsInFile : Told → Option (Bor Text) → Option (List ℕ) → Type 0
 IsInFile told None value = value ≡ None
 IsInFile told (Some file) value = ((file.now ≡ input_name) × (value ≡ None))
-    ⊎ ((file.now ≢ input_name) × ((read : List ℕ) × (value ≡ Some read) × IsValueOf (told file.now) read))
+    ⊎ ((file.now ≢ input_name) × ((read : List ℕ) × (value ≡ Some read) × IsValueOf told file.now read))
 
 -- a byte is read, or none at the end
 abbrev pub TakesByte : Option (List ℕ) → Option (List ℕ) → Option ℕ → Type 0

@@ -4,8 +4,13 @@ ghost use Rattle.s39_cli.specs.Said.{is_bare, recovers_any, tells_of_drawing};
 
 use s39_command::{BadValues, Call, Job};
 
+/// Said before a secret is typed.
+pub(crate) const SECRET_ASKED: &[u8] =
+    b"shamir: type the digits of the secret, then press Enter: they are shown as they are typed\n";
+
 /// Said before a passphrase is typed.
-pub(crate) const SHOWN: &[u8] = b"shamir: the passphrase is shown as it is typed\n";
+pub(crate) const PASSPHRASE_ASKED: &[u8] =
+    b"shamir: type the passphrase, then press Enter: it is shown as it is typed (docs/SCRIPTS.md says how to hide it)\n";
 
 /// Said before mnemonics are typed.
 pub(crate) const TYPING: &[u8] =

@@ -5,12 +5,12 @@ ghost use Rattle.s39_set.specs.declared.set_lack.SetLack.{SetLack};
 ghost use Rattle.s39_set.specs.Lack.{IsLack};
 ghost use Rattle.s39_set.specs.ShareSet.{IsShareSet};
 ghost use Rattle.s39_reading.specs.Exponent.{exponent_of};
-ghost use Rattle.s39_cli.specs.Said.{Says, count_line, is_attended, is_told, least_slow, line_if, listed_line, seconds_line, set_lines, shows_progress, types_mnemonics, types_passphrase};
+ghost use Rattle.s39_cli.specs.Said.{Says, asking_lines, count_line, is_attended, is_told, least_slow, line_if, listed_line, seconds_line, set_lines, shows_progress, types_mnemonics, types_value};
 ghost use Rattle.s39_cli.specs.Ending.{IsTyped};
 
-use crate::notes::BARE;
-use crate::values::INPUT;
-use s39_command::Job;
+use crate::notes::{BARE, PASSPHRASE_ASKED, SECRET_ASKED};
+use crate::values::{INPUT, TERMINAL};
+use s39_command::{Job, Texts};
 use s39_input::{Line, push_number, push_text};
 use s39_reading::exponent_of;
 use s39_reading::laws::shares_have_the_exponent;
@@ -75,14 +75,27 @@ impl<E: Write> Person<E> {
         self.terminals.input || self.terminals.output || self.terminals.errors
     }
 
-    /// Whether the passphrase is typed: the input is a terminal, and the passphrase is its first line.
-    pub(crate) fn types_passphrase(&self, file: Option<&str>) -> bool
-        ensures { result ≡ types_passphrase self.now.terminals.input file.entry }
+    /// Whether a person is asked for the value in this file: it is the first line of the input, which is a terminal, or the file
+    /// is the terminal, and a person looks on.
+    fn types_value(&self, file: Option<&str>) -> bool
+        ensures { result ≡ types_value self.now.terminals file.entry }
     {
         match file {
-            Some(name) => self.terminals.input && name == INPUT,
+            Some(name) if name == INPUT => self.terminals.input,
+            Some(name) => name == TERMINAL && self.is_attended(),
             None => false,
         }
+    }
+
+    /// Asks for the values in these files that are typed, in the order in which they are read.
+    pub(crate) fn ask_for(&mut self, files: Texts)
+        ensures said { Says E.contents self.old self.new (asking_lines self.old.terminals files.entry) }
+        ensures bare { self.new.is_bare ≡ self.old.is_bare }
+    {
+        let types_secret = self.types_value(files.secret);
+        let types_passphrase = self.types_value(files.passphrase);
+        self.say_if(types_secret, SECRET_ASKED);
+        self.say_if(types_passphrase, PASSPHRASE_ASKED);
     }
 
     /// Whether mnemonics are typed: the input is a terminal, and the command reads mnemonics.
@@ -95,13 +108,15 @@ impl<E: Write> Person<E> {
         }
     }
 
-    /// Whether random bytes would be typed: the job creates a backup, and the input is a terminal.
+    /// Whether random bytes would be typed: the job creates a backup, and the input is a terminal, or the file of its random bytes
+    /// is one.
     pub(crate) fn types_random(&self, job: &Job) -> bool
         ensures typed { IsTrue result → IsTyped self.now.terminals.input job.now }
         ensures untyped { IsFalse result → IsTyped self.now.terminals.input job.now → ⊥ }
     {
         match job {
             Job::Create { .. } => self.terminals.input,
+            Job::Resplit { random_file, .. } => *random_file == TERMINAL,
             _ => false,
         }
     }

@@ -9,7 +9,7 @@ ghost use Rattle.s39_cli.specs.Untouched.{IsUntouchedBy, IsUntouchedIfRefused};
 ghost use Rattle.s39_cli.specs.Work.{HasBadPassphrase};
 
 use crate::delivery::{flushed, show_text, write_failed};
-use crate::notes::{NEW_SECRET, SHOWN, TYPING, is_bare, tells_of_drawing};
+use crate::notes::{NEW_SECRET, TYPING, is_bare, tells_of_drawing};
 use crate::patient::Patient;
 use crate::person::Person;
 use crate::random_file::{NoRandom, random_of};
@@ -59,7 +59,7 @@ impl<R: Drop, W: Drop> Ended<R, W> {
 /// |---|---|
 /// | 0 | the command is done, or help or the version was asked for and written |
 /// | 1 | a refusal that isn't a device's, a drill that listed a digest mismatch or another secret than the expected one, a status with too few complete groups, or two mnemonics that fit a line of a repair |
-/// | 2 | the words or their values are refused, the secret isn't hexadecimal, or `create` would read a terminal |
+/// | 2 | the words or their values are refused, the secret isn't hexadecimal, or random bytes would be typed |
 /// | 3 | a file couldn't be opened, or a read or a write failed |
 /// | 4 | the program is out of memory |
 ///
@@ -91,8 +91,7 @@ pub fn program<S: Shelf, R: Read + Drop, W: Write + Drop, E: Write>(
     if person.types_random(&call.job) {
         return typed(input, output, person);
     }
-    let is_shown = person.types_passphrase(call.files.passphrase);
-    person.say_if(is_shown, SHOWN);
+    person.ask_for(call.files);
     person.keep(is_bare(&call));
     let mut input = input;
     let values = match Values::read(shelf, call.files, &mut input) {
@@ -291,9 +290,7 @@ fn typed<R: Drop, W: Drop, E: Write>(input: R, output: W, person: &mut Person<E>
     ensures ends { result ≡ Ended.With 2 input output }
     ensures said { Says E.contents person.old person.new typed_line }
 {
-    person.say(
-        b"shamir: random bytes aren't typed: pass them in, as with head -c N /dev/urandom | shamir create ..\n",
-    );
+    person.say(b"shamir: random bytes aren't typed: draw them, as with head -c N /dev/urandom\n");
     Ended::With {
         status: NO_JOB,
         input,

@@ -3,7 +3,7 @@ ghost use Rattle.std.specs.Prelude.{◌≡◌, ◌≢◌, Err, None, Some, IfErr
 ghost use Rattle.s39_command.specs.Command.{text_in};
 ghost use Rattle.s39_cli.specs.Said.{IsNamedIn};
 ghost use Rattle.s39_cli.specs.Values.{HasLong, HasLongValue, IsInFile, IsInput, IsLongFile, IsPart, IsValueIn, IsValueOf};
-ghost use Rattle.s39_cli.specs.Values.{LacksValue, TakesByte, TakesValue, TakesValues, text_of, without_line_end};
+ghost use Rattle.s39_cli.specs.Values.{LacksValue, TakesByte, TakesValue, TakesValues, end_in, text_of, without_line_end};
 
 use arrayvec::ArrayVec;
 use s39_command::Texts;
@@ -19,6 +19,9 @@ const ROOM: usize = 1027;
 
 /// The name that stands for the first line of the input.
 pub(crate) const INPUT: &str = "-";
+
+/// The name of the terminal from which a person runs the program.
+pub(crate) const TERMINAL: &str = "/dev/tty";
 
 /// Where a value ends.
 #[derive(Clone, Copy)]
@@ -159,13 +162,25 @@ pub(crate) struct NoFileValue<'a> {
     pub(crate) cause: NoValue,
 }
 
+/// Where the value in the file of this name ends: with the line that is typed, if the file is the terminal.
+fn end_in(name: &str) -> Until
+    ensures { result ≡ end_in name.now }
+{
+    if name == TERMINAL {
+        Until::LineEnd
+    } else {
+        Until::End
+    }
+}
+
 /// The value in the file of this name.
 fn value_of_file<S: Shelf>(shelf: &S, name: &str) -> Result<Value, NoValue>
-    ensures value { IfOk result (λ value. IsValueOf (S.told shelf.now name.now) value.items) }
-    ensures long { result ≡ Err NoValue.TooLong → HasLongValue Until.End (S.told shelf.now name.now) }
+    ensures value { IfOk result (λ value. IsValueOf (S.told shelf.now) name.now value.items) }
+    ensures long { result ≡ Err NoValue.TooLong
+        → HasLongValue (end_in name.now) (S.told shelf.now name.now) }
 {
     let mut file = shelf.open(name)?;
-    value_in(&mut file, Until::End)
+    value_in(&mut file, end_in(name))
 }
 
 /// The value in the file of this name, if there is a name, and it isn't that of the input.

@@ -64,7 +64,7 @@ impl Write for Screen<'_> {
     }
 }
 
-/// Runs the words at these terminals over a file `f`, and returns the status.
+/// Runs the words at these terminals over a file `f` and two lines of `/dev/tty`, and returns the status.
 pub fn run(
     alloc: Global,
     (words, input, terminals): (&[&str], &str, Terminals),
@@ -72,7 +72,7 @@ pub fn run(
     screen: &mut Screen<'_>,
 ) -> u8 {
     let shelf = Held {
-        files: &[("f", b"TREZOR\n")],
+        files: &[("f", b"TREZOR\n"), ("/dev/tty", b"TREZOR\nmore\n")],
     };
     program(
         &shelf,

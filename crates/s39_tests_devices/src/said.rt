@@ -13,7 +13,11 @@ use std::test::Fail;
 
 const TYPING: &str = "shamir: type a mnemonic on each line, then press Ctrl-D on an empty line\n";
 
-const SHOWN: &str = "shamir: the passphrase is shown as it is typed\n";
+const SECRET_ASKED: &str =
+    "shamir: type the digits of the secret, then press Enter: they are shown as they are typed\n";
+
+const PASSPHRASE_ASKED: &str =
+    "shamir: type the passphrase, then press Enter: it is shown as it is typed (docs/SCRIPTS.md says how to hide it)\n";
 
 const BARE: &str = "shamir: no passphrase was used: a backup with one gives another secret here\n";
 
@@ -255,11 +259,12 @@ fn tells_a_person_what_a_plan_and_a_secret_are(rt: HostRuntime) -> Result<(), Fa
 }
 
 #[test]
-fn tells_that_a_typed_passphrase_is_shown(rt: HostRuntime) -> Result<(), Fail> {
+fn asks_for_a_passphrase_in_the_input(rt: HostRuntime) -> Result<(), Fail> {
     let alloc = rt.alloc();
     let typed = lines(alloc, &["TREZOR", ONE_OF_ONE])?;
     let words = ["shamir", "recover", "--passphrase-file=-"];
-    expect_said(&rt, alloc, (&words, &typed, TYPED), &[SHOWN, TYPING], 0)?;
+    let asked = [PASSPHRASE_ASKED, TYPING];
+    expect_said(&rt, alloc, (&words, &typed, TYPED), &asked, 0)?;
     expect_said(&rt, alloc, (&words, &typed, SEEN), &[], 0)?;
     expect_said(&rt, alloc, (&words, &typed, TOLD), &[], 0)?;
     // A value that isn't printable, or too long.
@@ -269,9 +274,41 @@ fn tells_that_a_typed_passphrase_is_shown(rt: HostRuntime) -> Result<(), Fail> {
         (&long, "shamir: -: the value has more than 1024 bytes\n", 2),
     ];
     for (input, told, status) in cases {
-        expect_said(&rt, alloc, (&words, input, TYPED), &[SHOWN, told], status)?;
+        let asked = [PASSPHRASE_ASKED, told];
+        expect_said(&rt, alloc, (&words, input, TYPED), &asked, status)?;
     }
     Ok(())
+}
+
+// The file `/dev/tty` has the line of a passphrase, and a line behind it, which isn't read.
+#[test]
+fn asks_for_values_at_the_terminal(rt: HostRuntime) -> Result<(), Fail> {
+    let alloc = rt.alloc();
+    let recover = ["shamir", "recover", "--passphrase-file=/dev/tty"];
+    let create = [
+        "shamir",
+        "create",
+        "1of1",
+        "--master-secret-file=/dev/tty",
+        "--passphrase-file=/dev/tty",
+    ];
+    let no_digits = "shamir: master secret isn't hexadecimal\n";
+    let cases: [(&[&str], &[&str], &[&str], u8); 2] = [
+        (&recover, &[PASSPHRASE_ASKED], &[], 0),
+        (&create, &[SECRET_ASKED, PASSPHRASE_ASKED], &[no_digits], 2),
+    ];
+    for (words, asked, told, status) in cases {
+        for terminals in [SEEN, TOLD, NO_TERMINAL] {
+            let mut wanted = Vec::new(alloc);
+            if terminals != NO_TERMINAL {
+                wanted.extend_from_slice(asked)?;
+            }
+            wanted.extend_from_slice(told)?;
+            expect_said(&rt, alloc, (words, ONE_OF_ONE, terminals), &wanted, status)?;
+        }
+    }
+    let asked = [PASSPHRASE_ASKED, TYPING];
+    expect_said(&rt, alloc, (&recover, ONE_OF_ONE, TYPED), &asked, 0)
 }
 
 #[test]

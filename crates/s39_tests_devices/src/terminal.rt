@@ -187,9 +187,10 @@ fn reads_no_further_behind_the_end(rt: HostRuntime) -> Result<(), Fail> {
 
 #[test]
 fn takes_no_random_bytes_from_a_terminal(rt: HostRuntime) {
-    let words = create("2of3", SECRET);
-    let told =
-        "shamir: random bytes aren't typed: pass them in, as with head -c N /dev/urandom | shamir create ..\n";
-    let typed = ("my dog is red\n", 4096, ALL);
-    expect_reads(&rt, rt.alloc(), &words, typed, ("", told, 2, 0));
+    let resplit = ["shamir", "resplit", "x", "--random-file=/dev/tty"];
+    let told = "shamir: random bytes aren't typed: draw them, as with head -c N /dev/urandom\n";
+    for words in [create("2of3", SECRET).as_slice(), &resplit] {
+        let typed = ("my dog is red\n", 4096, ALL);
+        expect_reads(&rt, rt.alloc(), words, typed, ("", told, 2, 0));
+    }
 }

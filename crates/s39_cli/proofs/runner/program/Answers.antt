@@ -77,8 +77,8 @@ returns-in-Err-read-clause-said g c =
     let words = map (λ (word : Bor (List ℕ)). word.now) c.args.words.now in
     said_unread (g.S.Shelf.told c.args.shelf.now) g.R.Read.remaining g.E.Write.contents c.args.person.now.terminals words c.args.input
     c.args.person.now c.without_value.new.person c.in-Ok.call c.in-Ok.ensures.call
-    c.in-Ok.ensures.taken c.in-Ok.ensures.faultless (c.types_random.ensures.untyped c.if-types_random.false) c.types_passphrase-is_shown.result c.is_bare.result c.say_if.new.self c.keep.new.self
-    c.types_passphrase-is_shown.ensures c.say_if.ensures.said c.keep.ensures c.in-Err-read.unread.name.now c.without_value.result c.without_value.ensures.not_begun
+    c.in-Ok.ensures.taken c.in-Ok.ensures.faultless (c.types_random.ensures.untyped c.if-types_random.false) c.is_bare.result c.ask_for.new.self c.keep.new.self
+    c.ask_for.ensures.said c.keep.ensures c.in-Err-read.unread.name.now c.without_value.result c.without_value.ensures.not_begun
     c.in-Err-read.ensures.named c.without_value.ensures.said
 
 pub returns-clause-said : goal.returns-clause-said
@@ -86,7 +86,7 @@ returns-clause-said g c =
     let words = map (λ (word : Bor (List ℕ)). word.now) c.args.words.now in
     said_of_job (g.S.Shelf.told c.args.shelf.now) g.R.Read.remaining g.E.Write.contents c.args.person.now.terminals words c.args.input
     c.args.person.now c.by_job.new.person c.in-Ok.call c.in-Ok.ensures.call
-    c.in-Ok.ensures.taken c.in-Ok.ensures.faultless (c.types_random.ensures.untyped c.if-types_random.false) c.types_passphrase-is_shown.result c.is_bare.result c.say_if.new.self c.keep.new.self
-    c.types_passphrase-is_shown.ensures c.say_if.ensures.said c.keep.ensures (option_map (λ held. held.items) c.in-Ok-read.values.secret)
+    c.in-Ok.ensures.taken c.in-Ok.ensures.faultless (c.types_random.ensures.untyped c.if-types_random.false) c.is_bare.result c.ask_for.new.self c.keep.new.self
+    c.ask_for.ensures.said c.keep.ensures (option_map (λ held. held.items) c.in-Ok-read.values.secret)
     (option_map (λ held. held.items) c.in-Ok-read.values.passphrase) c.read.new.input c.by_job.result c.is_bare.ensures
-    (ap (λ p. p.terminals) c.keep.ensures ∙ c.say_if.ensures.said.same_terminals) c.in-Ok-read.ensures.values c.by_job.ensures.said
+    (ap (λ p. p.terminals) c.keep.ensures ∙ c.ask_for.ensures.said.same_terminals) c.in-Ok-read.ensures.values c.by_job.ensures.said
