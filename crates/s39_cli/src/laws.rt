@@ -1,13 +1,17 @@
 //! Facts about the definitions. Each is the contract of a function that does nothing, or only calls other laws.
-ghost use Rattle.std.specs.Prelude.{◌≡◌, ◌++◌, ℕ, List, [], ◌∷◌, IsFalse, Option, Some, codes, false, filter, length};
+ghost use Rattle.std.specs.Prelude.{◌≡◌, ◌≢◌, ◌↔◌, ◌++◌, ℕ, List, [], ◌∷◌, IsFalse, Option, Some, codes, false, filter, length};
 ghost use Rattle.std.specs.List.{range_with_len};
 ghost use Rattle.s39_set.specs.Written.{IsWrittenForm};
 ghost use Rattle.s39_command.specs.declared.command.Job.{Job};
+ghost use Rattle.s39_command.specs.declared.command.Texts.{Texts};
+ghost use Rattle.s39_command.specs.Command.{text_in};
 ghost use Rattle.s39_cli.specs.declared.telling.TheConstants.{MESSAGE_BYTES};
 ghost use Rattle.s39_drilling.specs.Watching.{AreSeen};
-ghost use Rattle.s39_cli.specs.Said.{IsSaid, Says, SaysCount, is_told, line_if, listed_lines, longest_message, shows_progress};
+ghost use Rattle.s39_cli.specs.Said.{IsNamedIn, IsSaid, Says, SaysCount, is_told, line_if, listed_lines, longest_message, shows_progress};
 ghost use Rattle.s39_cli.specs.Ending.{AreAllOf, HoldsBeginning, status_in};
 ghost use Rattle.s39_cli.specs.Values.{Told};
+ghost use Rattle.s39_cli.specs.declared.terminal.Progress.{Progress};
+ghost use Rattle.s39_cli.specs.Terminal.{ConsumesMore, EndsAlike, HasRest};
 ghost use Rattle.clap.specs.Words.{Text};
 ghost use Rattle.s39_cli.specs.Outcome.{HasNoCause, IsReady};
 ghost use Rattle.s39_cli.specs.Headline.{CreatedJobsRecover, DrillJobsList, OneOutcome, RecoverJobsRecover, ReissueJobsReissue, ResplitJobsResplit};
@@ -47,6 +51,34 @@ pub fn told_bytes_are_exact()
     ensures beginning { (old new text : List ℕ) → HoldsBeginning (Some old) (Some new) text
         → (lost : List ℕ) × (new ++ lost ≡ old ++ text) }
     ensures all { (all bytes : List ℕ) → AreAllOf (Some all) bytes → bytes ≡ all }
+{}
+
+/// Only what follows a run that was refused before it read, or that began to read and ended with another status than 0, is to be
+/// dropped.
+pub fn what_is_dropped()
+    ensures unread { (status : ℕ) → HasRest status Progress.Unread ↔ (status ≡ 1) }
+    ensures begun { (status : ℕ) → HasRest status Progress.Begun ↔ (status ≢ 0) }
+    ensures ended { (status : ℕ) → ¬ HasRest status Progress.Ended }
+{}
+
+/// Endings that are alike have the same exit status and the same writer, or memory ran out in both. Of a reader that tells its bytes,
+/// the second has read more, or nothing more.
+pub fn alike_endings_have_one_status<R, W>()
+    ensures status { (remaining : R → Option (List ℕ)) (ended other : Ended R W)
+        → EndsAlike remaining ended other → status_in ended ≡ status_in other }
+    ensures writer { (remaining : R → Option (List ℕ)) (status also : ℕ) (read_to further : R)
+        (written_to taken_to : W)
+        → EndsAlike remaining (Ended.With status read_to written_to)
+        (Ended.With also further taken_to)
+        → (taken_to ≡ written_to) × ConsumesMore (remaining read_to) (remaining further) }
+    ensures memory { (remaining : R → Option (List ℕ)) (other : Ended R W)
+        → EndsAlike remaining Ended.NoMemory other → other ≡ Ended.NoMemory }
+{}
+
+/// What is said of a file's value names a file of the secret or of the passphrase, and no other.
+pub fn values_are_of_two_files()
+    ensures { (files : Texts) (name : Text) → IsNamedIn files name
+        → text_in files.secret ≢ Some name → text_in files.passphrase ≡ Some name }
 {}
 
 /// If no stream is a terminal, nothing is said with status 0: the device stays as it was.

@@ -49,22 +49,22 @@ pub(crate) fn random_of<S: Shelf>(alloc: Global, shelf: &S, name: &str) -> Resul
     let bytes = Vec::with_capacity(alloc, MOST)?;
     let mut random = Cleared { bytes };
     let mut file = shelf.open(name)?;
-    fill(&mut file, &mut random.bytes)?;
+    fill(&mut file, &mut random)?;
     Ok(random)
 }
 
-/// Fills the empty vector with the first bytes of a reader.
-fn fill<R: Read>(input: &mut R, bytes: &mut Vec<u8>) -> io::Result<()>
-    requires empty { bytes.old.items ≡ [] }
-    requires room { 32575 ≤ vec_capacity bytes.old }
+/// Fills an empty block with the first bytes of a reader. The block is cleared also if a read fails.
+fn fill<R: Read>(input: &mut R, random: &mut Cleared) -> io::Result<()>
+    requires empty { random.old.bytes.items ≡ [] }
+    requires room { 32575 ≤ vec_capacity random.old.bytes }
     ensures { IfOk result (λ _. IsPart Until.End 32575 (R.remaining input.old) (R.remaining input.new)
-        bytes.new.items) }
+        random.new.bytes.items) }
 {
     for _ in 0..MOST {
         let Some(byte) = next_byte(input)? else {
             break;
         };
-        bytes.push_reserved(byte);
+        random.bytes.push_reserved(byte);
     }
     Ok(())
 }

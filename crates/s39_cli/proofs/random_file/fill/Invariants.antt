@@ -5,5 +5,5 @@ use Rattle.s39_cli.specs.declared.values.Until.TheVariants.{End}
 use Rattle.s39_cli.proofs.random_file.fill.Given as goal
 
 abbrev pub invariant-loop : goal.invariant-loop
-invariant-loop g l = IsBegunPart End l.counter (g.R.Read.remaining l.fn.input) (g.R.Read.remaining l.input) l.bytes.items
-    × (vec_len l.bytes ≡ l.counter) × (32575 ≤ vec_capacity l.bytes)
+invariant-loop g l = IsBegunPart End l.counter (g.R.Read.remaining l.fn.input) (g.R.Read.remaining l.input) l.random.bytes.items
+    × (vec_len l.random.bytes ≡ l.counter) × (32575 ≤ vec_capacity l.random.bytes)
