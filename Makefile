@@ -23,6 +23,8 @@
 #   make check-page  checks shamir.html in Chromium and in Firefox: each task by keyboard, each refusal, what the browser keeps; and
 #                    its tasks in WebKit
 #   make check-papers  checks shamir-papers in terminals: each task, each wrong answer, what the terminal and the memory keep
+#   make check-without-kit  needs no kit: it compiles dist/c, and checks the program and the library by the vectors, worked examples,
+#                    generated cases beside a plain reading of the standard in Python, and the commands of the documents
 #   make check-portable  checks dist/c, the library and the program each as one file of C: on x86-64 with each compiler, for other
 #                    processors with emulators, and for Windows with wine
 #   make check-js    checks the JavaScript package alone: its types, and its tests with both forms of the library
@@ -46,7 +48,7 @@
 #   make release     writes dist/, which holds what needs no build: the page, the program and the library as plain C, and as modules for
 #                    JavaScript
 #   make check-dist  makes the files of dist/ anew, and compares them byte for byte
-#   make check-alone  uses the page and the packages where the kit, the repository and the network are hidden. It needs root's rights
+#   make check-alone  runs the commands of README.md, and uses the page and the packages, where the kit, the repository and the network are hidden. It needs root's rights
 #   make dist        builds and packs all that a release gives into the folder shamir-VERSION: the committed sources, the page, dist/,
 #                    the packages, their sha256, and notes. The same commit and tools give the same bytes
 #   make clean       removes what these targets build, and what checks kept in crates/*/out
@@ -170,9 +172,9 @@ PACKAGES_CHECKS = check-debs check-installed
 SECRETS_CHECKS = check-leftovers check-timing
 PAGE_PARTS = privacy change refusals tasks journey entry looks astray hasty long agreement ways
 PAGE_CHECKS = $(foreach part,$(PAGE_PARTS),check-page-firefox-$(part) check-page-chromium-$(part)) check-page-sources check-page-webkit
-CHECKS = $(LIBRARY_CHECKS) $(PACKAGES_CHECKS) check-allocations check-terminal check-recipes check-completions check-values check-dist check-program check-node \
+CHECKS = $(LIBRARY_CHECKS) $(PACKAGES_CHECKS) check-allocations check-terminal check-recipes check-completions check-values check-dist check-program check-node check-without-kit \
 	check-examples check-texts check-figures check-manual check-version
-LONGEST = check-page-firefox-privacy check-page-chromium-privacy check-header check-rust check-leftovers check-papers check-vectors $(PACKAGES_CHECKS)
+LONGEST = check-page-firefox-privacy check-page-chromium-privacy check-header check-rust check-program check-leftovers check-papers check-vectors $(PACKAGES_CHECKS)
 PART = @$(PYTHON) tools/part $@
 # Without wasm-opt there is no page, and the checks say what they leave out.
 WASM_OPT := $(shell command -v wasm-opt 2> /dev/null)
@@ -236,6 +238,10 @@ check-alone:
 # Without wasm-opt there is no page, and the check says so.
 check-dist: $(PAGE) $(MODULES)
 	$(PART) $(PYTHON) tools/release --check
+
+# What is in dist/ needs no kit, and so does this.
+check-without-kit:
+	$(PART) $(PYTHON) tools/without_kit
 
 # The program as plain C beside ./shamir, on this machine alone.
 check-program: shamir libshamir.so $(MODULES)

@@ -12,8 +12,10 @@ docs/LIBRARY.md says, and the memory of a call is clear when it is freed. If the
 needs more of it than the header says, and no branch and no address depends on secret bytes but as timing.py says. For no processor, a frame
 is so large that a call could clear too little. --only names words: the parts run whose names have one of them.
 
-Of the program as plain C, its output, messages and status are those of ./shamir on generated command lines, in the same builds. Tools that
-check ./shamir check it too, and its heap is tried beside a plain one. With --program, only this is checked, and only on x86-64.
+Of the program as plain C, its output, messages and status are those of ./shamir on generated command lines, in the same builds and under
+valgrind, and on other processors and systems those of the vectors. Tools that check ./shamir check it too, its heap is tried beside a plain
+one, and it leaves nothing secret in memory, as it would without any one of its clearings. With --program, only what is quick of this is
+checked, and only on x86-64.
 
 With --speed, it measures calls beside those of libshamir.a, and checks nothing.
 

@@ -2,6 +2,7 @@
 secret in its memory.
 
     python3 tools/leftovers [--archive PATH] [--program PATH]
+    python3 tools/leftovers --plain-c PATH      checks only the program as plain C (program.c of dist/c), compiled for x86-64
 
 Of the library, it makes calls by tools/check_portable/driver.c, which gives what then lies below the frame of the caller. There, the
 tool searches for the secret, the encrypted secret, the passphrase, the random bytes and the values of shares: their bytes and digits,
@@ -15,8 +16,9 @@ given. The tool needs a C compiler for x86-64 and objdump. It says what it doesn
 Of the program, it runs each command: with good ends, with each kind of refusal, with devices that fail, with values in files and in
 lines of the input, at a terminal, if memory runs out, and if a read of a file fails after bytes of it came. It stops the program when it
 is about to end, and searches all memory that it can write for the same as above. It also checks that on the stack all is 0 below the frames of `main`. With too small a stack, a
-signal must end the program before it has read anything secret or written anything. For this it needs the right to trace a program,
-and for a lack of memory a C compiler, as tools/faults.c refuses the allocations.
+signal must end the native program before it has read anything secret or written anything, and the program as plain C must need no more
+than each program is given. Blocks that this program frees are searched too, and mustn't have its constants, as it clears them whole. For all
+this, the tool needs the right to trace a program, and for a lack of memory a C compiler, as tools/faults.c refuses the allocations.
 
 It exits with status 1 if something is found, if a call or a run answers something else than it must, or if a call can reach further
 than it clears.
@@ -59,16 +61,17 @@ def of_calls(archive: pathlib.Path) -> List[str]:
     return told
 
 
-def of_runs(program: pathlib.Path) -> List[str]:
-    """Checks the runs of the program. Returns what is wrong."""
+def of_runs(program: pathlib.Path, is_plain_c: bool) -> List[str]:
+    """Checks the runs of the native program, or of the one as plain C. Returns what is wrong."""
     if not exits.can_trace():
         left_out("programs can't be traced here, so nothing looks for what the program leaves in its memory")
         return []
     with tempfile.TemporaryDirectory() as folder:
         shim = faults_library(folder, COMPILER) if is_here(COMPILER[0], "the program isn't run without memory") else ""
-        told, count, deepest = ends.all_leftovers(program, shim)
+        told, count, deepest = ends.all_leftovers(program, shim, is_plain_c)
     if not told:
-        print(f"at the end of each of {count} runs of the program, nothing secret is in its memory; below {deepest} bytes, all of its stack is 0")
+        name = "the program as plain C" if is_plain_c else "the program"
+        print(f"at the end of each of {count} runs of {name}, nothing secret is in its memory; below {deepest} bytes, all of its stack is 0")
     return told
 
 
@@ -76,11 +79,12 @@ def main() -> None:
     words = argparse.ArgumentParser()
     words.add_argument("--archive", type=pathlib.Path, default=ROOT / "libshamir.a")
     words.add_argument("--program", type=pathlib.Path, default=ROOT / "shamir")
+    words.add_argument("--plain-c", type=pathlib.Path)
     given = words.parse_args()
     if platform.machine() != "x86_64":
         left_out("this isn't x86-64, so nothing looks for what the library and the program leave in memory")
         return
-    told = of_calls(given.archive) + of_runs(given.program)
+    told = of_runs(given.plain_c, True) if given.plain_c else of_calls(given.archive) + of_runs(given.program, False)
     if told:
         more = [f"and {len(told) - SHOWN} more"] if len(told) > SHOWN else []
         sys.exit("tools/leftovers: something is left in memory\n  " + "\n  ".join(told[:SHOWN] + more))

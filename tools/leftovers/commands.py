@@ -19,8 +19,10 @@ CUT_OFF, FULL = How(is_cut=True), How(is_full=True)
 UNKNOWN_WORD, RANDOM_LENGTH = 13, 43
 # The most random bytes that a backup takes. The program reads at most one more.
 MOST_RANDOM = 32574
-# Each command needs less of the stack than this, and `main` takes more before it reads anything.
+# Each command of the native program needs less of the stack than this, and its `main` takes more before it reads anything.
 SHORT = 376 << 10
+# Linux gives this much of the stack before a program begins, whatever the limit. As plain C, the program needs no more.
+GIVEN = 128 << 10
 
 
 @dataclass(frozen=True)
@@ -157,10 +159,13 @@ def at_terminals(runs: List[Run]) -> Iterator[Run]:
             yield replace(run, how=How(is_shown=True))
 
 
-def without_stack(runs: List[Run]) -> Iterator[Run]:
-    """Yields the sound runs with so small a stack that a signal ends them before they have read anything."""
+def with_little_stack(runs: List[Run], is_plain_c: bool) -> Iterator[Run]:
+    """Yields the sound runs with so small a stack that a signal ends them before they have read anything. As plain C, the program ends as
+    well with what it is given at the least."""
     for run in runs:
-        if run.is_sound:
+        if run.is_sound and is_plain_c:
+            yield replace(run, how=replace(run.how, stack=GIVEN))
+        elif run.is_sound:
             yield replace(run, status=-signal.SIGSEGV, how=How(stack=SHORT))
 
 
@@ -172,7 +177,7 @@ def greatest(backup: Backup, made: List[cases.Case]) -> Iterator[Run]:
     yield Run(["repair"], backup.lines())
 
 
-def all_runs() -> Iterator[Tuple[Backup, List[Run]]]:
+def all_runs(is_plain_c: bool) -> Iterator[Tuple[Backup, List[Run]]]:
     for backup, made in cases.all_cases():
         if backup.plan == cases.PLAN:
             runs = [run for case in made for is_line in (False, True) for run in like(case, is_line)]
@@ -180,6 +185,6 @@ def all_runs() -> Iterator[Tuple[Backup, List[Run]]]:
                 runs += failures_of_a_split(backup, backup.anew)
             else:
                 runs += [run for is_line in (False, True) for run in failures(backup, is_line)]
-            yield backup, [*runs, *at_terminals(runs), *without_stack(runs)]
+            yield backup, [*runs, *at_terminals(runs), *with_little_stack(runs, is_plain_c)]
         else:
             yield backup, list(greatest(backup, made))

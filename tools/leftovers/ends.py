@@ -17,6 +17,11 @@ FRAMES = 1024
 OUT_OF_MEMORY, READ_FAILED = 4, 3
 # Of the reads of a file, so many fail, each in a run of its own.
 FAILED_READS = 5
+# The memory of the program as plain C is one large block. The C library would give it back to the system when it is freed, and nothing of
+# it could be searched.
+KEPT = {"MALLOC_MMAP_MAX_": "0", "MALLOC_TRIM_THRESHOLD_": str(1 << 40)}
+# The constants of the program have this text. It is nothing secret, but where it is left in the heap, a block wasn't cleared.
+CONSTANT = b"mnemonic"
 # A line of what tools/faults.c logs.
 CALL = re.compile(rb"^(allocation|file|read) \d+ -?\d+$", re.MULTILINE)
 
@@ -27,6 +32,7 @@ class Search:
 
     program: str
     needles: backups.Needles
+    is_plain_c: bool
 
     def __call__(self, run: commands.Run) -> Tuple[List[str], int]:
         """Runs the program. Returns what is left, and how many bytes below the words of the command the lowest is that isn't 0."""
@@ -36,7 +42,9 @@ class Search:
         if code != run.code or end.status != run.status and (code, run.status, end.status) != (0, 0, 1):
             return [f"{run.name} ends with the code {code} and the status {end.status}"], 0
         told = {f"{run.name} leaves {what} in {area.name}" for area in end.areas for _, what in self.needles.within(area.memory)}
-        if run.how.stack:
+        if self.is_plain_c and any(CONSTANT in area.memory for area in end.areas if area.name == "[heap]"):
+            told.add(f"{run.name} leaves the memory of the program as it was")
+        if run.status < 0:
             # A signal ended it, before it could clear anything.
             return sorted(told | {f"{run.name} has written" for _ in end.output[:1]}), 0
         lowest = max(end.lowest(area) for area in end.areas)
@@ -59,7 +67,7 @@ def ended(program: str, run: commands.Run) -> exits.End:
 
 
 def with_variables(run: commands.Run, **variables: str) -> commands.Run:
-    return replace(run, how=replace(run.how, variables=variables))
+    return replace(run, how=replace(run.how, variables={**run.how.variables, **variables}))
 
 
 def refused_allocations(program: str, shim: str, run: commands.Run) -> Iterator[commands.Run]:
@@ -97,14 +105,16 @@ def searched(run: commands.Run) -> Tuple[List[str], int]:
     return SEARCHES[0](run)
 
 
-def all_leftovers(program: pathlib.Path, shim: str) -> Tuple[List[str], int, int]:
-    """Makes all runs. Returns what they leave, how many they are, and the lowest byte of the stack that one leaves other than 0.
-    `shim` is tools/faults.c as a library, or nothing.
+def all_leftovers(program: pathlib.Path, shim: str, is_plain_c: bool) -> Tuple[List[str], int, int]:
+    """Makes all runs of the native program, or of the one as plain C. Returns what they leave, how many they are, and the lowest byte of the
+    stack that one leaves other than 0. `shim` is tools/faults.c as a library, or nothing.
     """
     told: List[str] = []
     count = deepest = 0
-    for backup, runs in commands.all_runs():
-        search = Search(str(program.resolve()), backups.Needles(backup))
+    for backup, runs in commands.all_runs(is_plain_c):
+        search = Search(str(program.resolve()), backups.Needles(backup), is_plain_c)
+        if is_plain_c:
+            runs = [with_variables(run, **KEPT) for run in runs]
         if shim:
             runs += with_faults(search.program, shim, runs)
         # Each process traces its own runs, since only the thread that started a program may trace it.

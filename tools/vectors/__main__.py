@@ -2,6 +2,7 @@
 
     python3 tools/vectors           compares the files of vectors/ with what the tool makes, and asks all readers that are here
     python3 tools/vectors --write   writes these files anew. The same sources give the same bytes each time
+    python3 tools/vectors --program WORD,..     asks only the program that these words run, such as one with its emulator
 
 What is right comes from a plain reading of the standard in Python (tools/plain.py). The library, by its Python binding, and the
 program have to agree with every case. So has `shamir.mnemonic`, for the cases in the standard's own form. Each planted mistake
@@ -9,6 +10,7 @@ has to be caught by a case, and each case has to catch one. Electrum, if it is h
 combine the mnemonics of a backup that is split anew to what the new ones combine to. The tool exits with status 1 if something differs.
 """
 import argparse
+import functools
 import os
 import pathlib
 import sys
@@ -40,22 +42,30 @@ def check_caught(mistakes):
         sys.exit(f"no mistake is caught by {' and '.join(idle)}")
 
 
-def difference(place):
-    """Returns what the library or the program answers to a case, if it isn't what is right."""
+def difference_of_library(place):
+    """Returns what the library answers to a case, if it isn't what is right."""
     import shamir
 
+    return difference("the library", place, functools.partial(readers.library, shamir))
+
+
+def difference_of_program(words, place):
+    """Returns what the program that these words run answers to a case, if it isn't what is right."""
+    return difference("the program", place, functools.partial(readers.of_program, words))
+
+
+def difference(name, place, read):
     _, case, right = data.cases()[place]
-    for name, found in [("the library", readers.library(shamir, case)), ("the program", readers.of_program(str(ROOT / "shamir"), case))]:
-        if found is not None and found != right:
-            return f"{case.id}: {name} answers {found}, and right is {right}"
-    return None
+    found = read(case)
+    return f"{case.id}: {name} answers {found}, and right is {right}" if found not in (None, right) else None
 
 
-def check_agreement():
+def check_agreement(*differences):
     with workers() as pool:
-        for differs in pool.map(difference, range(len(data.cases())), chunksize=8):
-            if differs:
-                sys.exit(differs)
+        for of_reader in differences:
+            for differs in pool.map(of_reader, range(len(data.cases())), chunksize=8):
+                if differs:
+                    sys.exit(differs)
 
 
 def check_reference_calls():
@@ -74,7 +84,12 @@ def check_reference_calls():
 def main():
     parser = argparse.ArgumentParser(prog="python3 tools/vectors", description="Makes the vectors of vectors/ anew, and checks them.")
     parser.add_argument("--write", action="store_true", help="write the files of vectors/")
+    parser.add_argument("--program", help="the words that run the program, if it alone is asked")
     args = parser.parse_args()
+    if args.program:
+        check_agreement(functools.partial(difference_of_program, args.program.split(",")))
+        print(f"vectors: the program agrees with {sum(readers.has_command(case) for _, case, _ in data.cases())} cases")
+        return
     texts, mistakes = data.files()
     check_caught(mistakes)
     if args.write:
@@ -82,7 +97,7 @@ def main():
             (data.FOLDER / name).write_text(text)
     check_files(texts)
     page.check(mistakes)
-    check_agreement()
+    check_agreement(difference_of_library, functools.partial(difference_of_program, [str(ROOT / "shamir")]))
     check_reference_calls()
     page.check_electrum()
     page.check_sealed()

@@ -92,13 +92,18 @@ def words_and_input(case, random):
     return [{"recover": "recover", "quorums": "drill"}[case.asks], *passphrase], lines
 
 
+def has_command(case):
+    """Returns whether the program can be asked for a case. An empty mnemonic is no line of an input."""
+    return case.asks not in ("encrypted", "decrypt", "decrypt_round", "create_from_encrypted") and (case.asks != "parse" or bool(case.given["mnemonic"]))
+
+
 def of_program(program, case):
-    """Returns what the program answers, or None for an empty mnemonic, which is no line of an input, and for what no command does."""
-    if case.asks in ("encrypted", "decrypt", "decrypt_round", "create_from_encrypted") or case.asks == "parse" and not case.given["mnemonic"]:
+    """Returns what the program that these words run answers, or None if it can't be asked."""
+    if not has_command(case):
         return None
     with file_with(bytes.fromhex(case.given.get("random", ""))) as random:
         words, data = words_and_input(case, random)
-        output, errors, _ = answer([program, *words], data)
+        output, errors, _ = answer([*program, *words], data)
     told = re.fullmatch(r"shamir: (?:line (\d+): )?(\d+) (.*)\n", errors)
     if told:
         line = {} if told[1] is None or case.asks == "parse" else {"line": int(told[1])}
