@@ -155,6 +155,7 @@ export class PaperEntry {
       back: (at) => this.#fields[Math.max(0, at - 1)].focus(),
       spread: (at, words) => void this.#spread(at, words),
       guessed: (at) => this.#guessed(at),
+      together: (fields) => this.#together(fields),
       pasted: (at, papers) => this.#pasted(at, papers),
       beyond: (at, letters) => this.#goBeyond(at, letters),
       put: (at) => this.#put(at),
@@ -194,14 +195,16 @@ export class PaperEntry {
   }
 
   /**
-   * Goes on with a paper of the other usual length, after whose first words the fields end.
+   * Goes on with a paper of the other usual length, after whose first words the fields end, or with the next paper, before the answer to this one.
    *
    * @param {number} at
    * @param {string} letters what was typed after the last word
    */
   #goBeyond(at, letters) {
-    const [few, many] = USUAL_WORDS;
-    if (at + 1 !== few || this.count !== few || this.#known !== null) return false;
+    const [short, long] = USUAL_WORDS;
+    const few = this.count;
+    const many = Math.min(few + long - short, COUNT_MAX);
+    if (at + 1 !== few || many === few || this.#known !== null || !(few === short || this.#isAsked)) return false;
     this.setCount(many, few);
     this.say(say("entry.beyond", { few, many }));
     this.#fields[few].takeOver(letters);
@@ -209,22 +212,18 @@ export class PaperEntry {
   }
 
   /**
-   * Returns what was typed in the fields from this one on to the current one.
-   *
-   * @param {number} first
-   */
-  #typedFrom(first) {
-    return this.#fields.slice(first, this.#current + 1).map(({ field }) => field.value);
-  }
-
-  /**
    * Begins the next paper with words that came before the answer to the paper before.
    *
-   * @param {string[]} words the last one may not be complete
+   * @param {number} count how many words that paper had
+   * @param {WordField[]} came the fields that took these words. The last one may not be complete
    */
-  #begin(words) {
-    words.slice(0, -1).forEach((word, at) => this.#fields[at].set(word));
-    this.#fields[words.length - 1].takeOver(words[words.length - 1]);
+  #begin(count, came) {
+    const last = came.length - 1;
+    const letters = came[last].field.value;
+    came.slice(0, last).forEach((field, at) => this.#fields[at].takeWord(field));
+    for (const field of [...this.#fields.slice(last), ...this.#spare]) field.set("");
+    this.setCount(count);
+    this.#fields[last].takeOver(letters);
   }
 
   /**
@@ -386,21 +385,34 @@ export class PaperEntry {
 
   /**
    * A word was mistyped, and its first letters completed another one. If that is the nearest word, it stays, to be looked at. Otherwise what was
-   * typed stands there. The paper may have been taken meanwhile.
+   * typed stands there. If the paper was taken meanwhile, the owner is told that letters were left out.
    *
    * @param {WordField} field
    * @param {string} typed
    */
   #mistyped(field, typed) {
     const at = this.#fields.indexOf(field);
-    if (at < 0 || field.word === "") return;
+    if (at < 0 || field.word === "") {
+      this.say(`${this.#answer.textContent} ${say("entry.mistyped.last")}`.trim(), this.#answer.classList.contains("fault"));
+      return;
+    }
     const isNear = nearest(this.#list, typed, 1)[0] === field.word;
     if (isNear) field.doubt(typed);
     else field.set(typed);
-    if (this.count > this.#base && this.#fields.slice(this.#base).every(({ word }) => word === "")) this.setCount(this.#base);
+    if (this.#isAsked) this.#again = true;
+    else this.#endBeyond(this.#base);
     // Of a word that stays, a whole paper was read already.
     if (!isNear || !this.#isFull) this.#completed(at, false);
     if (isNear && !this.#isMissing) this.say(say("entry.mistyped", { number: at + 1 }), true);
+  }
+
+  /**
+   * Shows only so many fields again, if none of the others has a word.
+   *
+   * @param {number} count
+   */
+  #endBeyond(count) {
+    if (this.count > count && this.#fields.slice(count).every(({ word }) => word === "")) this.setCount(count);
   }
 
   /**
@@ -413,6 +425,18 @@ export class PaperEntry {
     if (!field.word) return;
     field.doubt();
     if (!this.#isFull) this.say(say("entry.guessed", { number: at + 1 }));
+  }
+
+  /**
+   * Few letters completed several words, so they may be one word, mistyped. The owner looks at these words. The paper may have been taken
+   * meanwhile.
+   *
+   * @param {WordField[]} fields
+   */
+  #together(fields) {
+    const here = fields.filter((field) => this.#fields.includes(field) && field.word !== "");
+    for (const field of here) field.doubt();
+    if (here.length && !this.#isFull) this.say(say("entry.together", { number: this.#fields.indexOf(here[0]) + 1 }));
   }
 
   get #isFull() {
@@ -496,19 +520,22 @@ export class PaperEntry {
     const { count, words: asked } = this;
     const { isTaken, text, isFault = !isTaken, words = [] } = await this.#onPaper(this.line()).finally(() => (this.#isAsked = false));
     if (!this.element.isConnected) return isTaken;
-    const beyond = this.#typedFrom(count);
+    const beyond = this.#fields.slice(count, this.#current + 1);
     // Other words came than were asked about, or more.
-    if (beyond.length && !isTaken) return false;
+    if (!isTaken && beyond.some(({ word }) => word !== "")) return false;
+    if (!isTaken && beyond.length) {
+      this.#endBeyond(count);
+      this.#fields[count - 1].focus();
+    }
     if (this.#again && !isTaken && this.words.some((word, at) => word !== asked[at])) return this.#read(isBySpelling);
     this.say(text, isFault);
     // What is said moves the buttons.
     tellChanged();
-    if (isTaken) this.clear();
-    if (beyond.length) {
-      this.setCount(count);
-      this.#begin(beyond);
+    if (isTaken && beyond.length) {
+      this.#begin(count, beyond);
       return true;
     }
+    if (isTaken) this.clear();
     for (const word of words) this.#fields[word]?.doubt();
     // Letters of the last word may still come. They must not replace the word to look at.
     if (words.length && !isBySpelling) this.#fields[words[0]]?.select();

@@ -224,25 +224,24 @@ export function endsBefore(list, letters, whole, rest) {
 // So many letters may be wrong in a word.
 const MISTYPED_MAX = 2;
 // Nobody types so many letters for one word of the list, and so few are no word.
-const TYPED_MOST = 10;
+export const TYPED_MOST = 10;
 const TYPED_LEAST = 4;
 
 /**
- * Whether letters that a key ended are the end of the word before, mistyped. If they make a word, they are so only if all that was typed is
- * nearly the word before. A question mark is none.
+ * Whether letters that a key ended are the end of the word before, mistyped. If they make a word, or are the rest of one, they are so only if all
+ * that was typed is nearly one word. A question mark is none.
  *
  * @param {readonly string[]} list
- * @param {string} letters
+ * @param {string} letters none if they are the rest of the word before
  * @param {Rest} rest
  * @param {string} typed all that was typed since the last key
- * @param {readonly string[]} words the words that it completed
+ * @param {boolean} isOfSeveral whether that completed several words
  */
-export function isTail(list, letters, rest, typed, words) {
-  const isOfSeveral = words.length > 1;
+export function isTail(list, letters, rest, typed, isOfSeveral) {
   if (letters.includes("?") || typed.length > TYPED_MOST || (letters === "" && !isOfSeveral)) return false;
-  if (letters === "" || beginning(list, letters).length === 1) return distance(typed, words[0]) < MISTYPED_MAX;
-  const isNear = list.some((word) => distance(typed, word) <= MISTYPED_MAX);
-  if (isNear || isOfSeveral) return isNear;
+  const isWord = letters === "" || beginning(list, letters).length === 1;
+  const isNear = list.some((word) => distance(typed, word) <= (isWord ? 1 : MISTYPED_MAX));
+  if (isNear || isWord || isOfSeveral) return isNear;
   return letters.length < TYPED_LEAST || (letters.length <= rest.letters.length + 1 && distance(letters, rest.letters) <= MISTYPED_MAX);
 }
 

@@ -7,7 +7,7 @@
 import { button, element, input } from "./dom.js";
 import { say } from "./say.js";
 import { announce, setTouched } from "./screen.js";
-import { beginning, endsBefore, habitOf, isMark, isRestWhole, isTail, marksOf, nearest, NO_REST, NOTHING_SEEN, papersOf, readings, seenWith, wordsOf } from "./spelling.js";
+import { beginning, endsBefore, habitOf, isMark, isRestWhole, isTail, marksOf, nearest, NO_REST, NOTHING_SEEN, papersOf, readings, seenWith, TYPED_MOST, wordsOf } from "./spelling.js";
 
 /**
  * @typedef {object} Events
@@ -18,6 +18,7 @@ import { beginning, endsBefore, habitOf, isMark, isRestWhole, isTail, marksOf, n
  * @property {() => void} ended Enter
  * @property {(at: number, letters: string) => boolean} beyond letters came after the word, which has ended. Returns whether another field took them
  * @property {(at: number) => void} guessed the letters of the word can be read in another way too, and only the habit of the typist decided
+ * @property {(fields: WordField[]) => void} together few letters completed these words with no key between them
  * @property {(field: WordField, typed: string) => void} mistyped letters completed a word, and what came after them until a key isn't its
  *   rest, so it is left out: all of it is one word, which is mistyped
  * @property {(at: number) => void} put a word is to be put in before this one
@@ -148,6 +149,17 @@ export class WordField {
     if (isDoubted) this.doubt();
   }
 
+  /**
+   * Takes the word of a field over that took it for this one, while this one wasn't empty yet.
+   *
+   * @param {WordField} other
+   */
+  takeWord(other) {
+    this.set(other.word, other.isDoubted);
+    this.#before = { word: "", isDoubted: false };
+    if (run) run.fields = run.fields.map((it) => (it === other ? this : it));
+  }
+
   /** Takes letters that came in the field before, and goes on with them here. */
   takeOver(/** @type {string} */ letters) {
     this.arrive();
@@ -226,7 +238,7 @@ export class WordField {
     const letters = words[0] ?? "";
     const isEnded = letters !== value;
     const isRest = isRestWhole(this.#list, letters, rest, isEnded);
-    if (isEnded && this.#isMistyped(isRest ? "" : letters)) return;
+    if (isEnded && this.#isMistyped(letters, isRest)) return;
     if (isEnded) arrived = run = null;
     if (isEnded && letters === "") rest = NO_REST;
     if (isRest) {
@@ -259,8 +271,9 @@ export class WordField {
    * of it into this field and others is left out.
    *
    * @param {string} letters what a key ended in this field
+   * @param {boolean} isRest whether these are the rest of the word before
    */
-  #isMistyped(letters) {
+  #isMistyped(letters, isRest) {
     if (run === null) return false;
     const { fields, words } = run;
     const word = /** @type {string} */ (words.at(-1));
@@ -269,11 +282,17 @@ export class WordField {
     if (arrived !== this && !isOwn) return false;
     const tail = isOwn ? letters.slice(word.length) : letters;
     const typed = run.letters + tail;
-    if (!isTail(this.#list, tail, rest, typed, words)) return false;
+    const isOfSeveral = fields.length > 1;
+    if (!isTail(this.#list, isRest ? "" : tail, rest, typed, isOfSeveral)) {
+      if (isOfSeveral && typed.length <= TYPED_MOST) this.#events.together(fields);
+      return false;
+    }
     forgetRest();
     if (isOwn) this.set(word);
     else this.#restore();
-    for (const field of fields.slice(1)) field.#restore();
+    const [, ...others] = fields;
+    for (const field of others) field.#restore();
+    others[0]?.focus();
     this.#events.mistyped(fields[0], typed);
     return true;
   }
@@ -300,7 +319,7 @@ export class WordField {
     if (run) run.letters += more.trim();
     if (more.trim() !== "") return true;
     const isBefore = arrived === this;
-    if (this.#isMistyped("")) return true;
+    if (this.#isMistyped(isBefore ? "" : whole, true)) return true;
     // A space ends the last word, so nothing more of it comes, not even on the next screen.
     this.#moved();
     if (!isBefore && this.isRight) this.#events.completed(this.#at, false);
@@ -437,11 +456,12 @@ export class WordField {
   #pressed(event) {
     const isEnding = event.key === "Enter" || (event.key === "Tab" && !event.shiftKey);
     const isBefore = isEnding && arrived === this && endsBefore(this.#list, this.word, this.#whole, rest);
+    const came = arrived === this && this.word === this.#whole ? "" : this.word;
     if (event.ctrlKey && (event.key === "Enter" || event.key === "Delete")) {
       event.preventDefault();
       if (event.key === "Enter") this.#events.put(this.#at);
       else this.#events.take(this.#at);
-    } else if (isEnding && this.#isMistyped(isBefore ? "" : this.word)) {
+    } else if (isEnding && this.#isMistyped(came, isBefore)) {
       event.preventDefault();
     } else if (isBefore) {
       // This key ends the word before, from which the focus has already come here.

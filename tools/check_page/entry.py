@@ -1,6 +1,7 @@
 """The entry of a paper: keys that end a word, words that were not read, and what can be read of a damaged paper."""
 from browsers import Failed
 from choices import ABOVE
+from hasty import ASK, UNDO
 from refusals import said
 from samples import BAD_CHECKSUM, BAD_PADDING, BIP39, BIP39_LONG, EXCHANGED, LONG, SOUND_PAPER, THREE_GROUPS, TWO, changed, name_of, with_words
 from tasks import begin, begin_replace, clear, end, found_words, paste, take_all, type_damaged
@@ -122,7 +123,7 @@ def check_after_button(page, _):
 
 
 def check_last_word(page, _):
-    """What comes after the first letters of a paper's last word, and is its rest, mistyped, changes no field of the next paper."""
+    """What comes after the first letters of a paper's last word, and is its rest, mistyped, changes no field of the next paper. The owner is told."""
     typed = "[...document.querySelectorAll('.word input')].map((it) => it.value).join(' ').trim()"
     for rest in ("zter", "tre", "te"):
         begin(page, "check")
@@ -131,7 +132,58 @@ def check_last_word(page, _):
         page.wait_text(say("collect.taken", name="0.0"))
         page.type(rest + " acid academic ")
         page.wait(lambda: page.evaluate(typed) == "acid academic", f"the first words of the next paper, after a last word that ends with {rest!r}")
+        if (say("entry.mistyped.last") in page.text()) != (rest not in "ter"):
+            raise Failed(f"that {rest!r} is left out isn't told, or the rest of a word is said to be mistyped")
         clear(page)
+
+
+def check_late_answer(page, see):
+    """Letters that come before the answer to a paper, and after its last word is clear, change no field of the next paper or screen."""
+    line = changed(SOUND_PAPER, value=bytes([11] * 16))
+    # The last word is 'sister'. 'z' makes 'zero', 'ter' makes 'terminal', and 'item' is made by 'it'.
+    for before, after in [("z", "ter "), ("zter ", ""), ("tz", "er "), ("it", "er ")]:
+        begin(page, "check")
+        page.evaluate(ASK % "add")
+        page.type(line.removesuffix("ter") + before)
+        page.evaluate(UNDO)
+        page.wait_text(say("collect.taken", name="0.0"))
+        page.type(after + "acid academic ")
+        see("letters before the answer to a paper")
+        page.wait(lambda: page.evaluate(FIELDS) == "acid academic", f"the first words of the next paper, after {before!r} before an answer, and {after!r} after it")
+        clear(page)
+    begin(page, "damaged")
+    paste(page, with_words(line, {6: "?"}))
+    page.push(say("damaged.write", name="0.0"))
+    page.push(say("paper.written"), to=say("back.title", name="0.0"))
+    page.evaluate(ASK % "typedBack")
+    page.type(line.removesuffix("ter") + "z")
+    page.evaluate(UNDO)
+    page.wait_title(say("damaged.check.title"))
+    page.type("ter acid academic ")
+    page.wait(lambda: page.evaluate(FIELDS) == "acid academic", "the first words of the next screen, after a letter before an answer")
+    clear(page, say("clear.repaired"))
+    # The first word of the next paper, of which a letter comes before the answer.
+    for paper, rest in [(line, "ter"), (LONG, "k")]:
+        begin(page, "check")
+        page.push(say("entry.words", count=len(paper.split())))
+        page.evaluate(ASK % "add")
+        page.type(paper.removesuffix(rest) + "z")
+        page.evaluate(UNDO)
+        page.wait_text(say("collect.taken", name=name_of(paper)))
+        page.type("ero acid ")
+        page.wait(lambda: page.evaluate(FIELDS) == "zero acid" and page.evaluate(MARKED) == "1", "the first words of the next paper, one letter of which came before an answer")
+        clear(page)
+
+
+def check_together(page, see):
+    """Few letters that make several words, and nearly no word together, stay these words. The owner is told to look at them."""
+    begin(page, "check")
+    page.fill(say("entry.word", number=1), "acid assistzer academic ")
+    page.wait_text(say("entry.together", number=2))
+    if page.evaluate(FIELDS) != "acid aspect sister zero academic" or page.evaluate(MARKED) != "2 3 4":
+        raise Failed(f"after few letters that make several words, the fields hold {page.evaluate(FIELDS)!r}; marked: {page.evaluate(MARKED)}")
+    see("few letters that make several words")
+    clear(page)
 
 
 def check_offers(page, see):
@@ -188,7 +240,7 @@ def check_mistyped(page, see):
 FIELDS = "[...document.querySelectorAll('.word:not([hidden]) input')].map((it) => it.value).join(' ').trim()"
 MARKED = "[...document.querySelectorAll('.word')].map((it, at) => it.matches('.doubt, .wrong') ? at + 1 : '').join(' ').trim()"
 # What is typed in place of word 3, and what stands there then. The first letters of each typo make another word, and the others can make one more.
-TYPOS = {"beling": "beling", "belixq": "believe", "acadenic": "academic", "acadmic": "academic", "distsnce": "distance", "trafvic": "traffic"}
+TYPOS = {"beling": "beling", "belixq": "believe", "acadenic": "academic", "acadmic": "academic", "distsnce": "distance", "trafvic": "traffic", "sistzer": "sister", "siszter": "sister", "bister": "bister", "zsister": "zsister"}
 
 
 def take_out(page, name="0.0"):
@@ -519,4 +571,4 @@ def check_known_count(page, see):
     clear(page, say("clear.repaired"))
 
 
-CHECKS = [check_unread, check_keys, check_next_screen, check_last_word, check_once, check_after_button, check_offers, check_habits, check_guessed, check_mistyped, check_typo, check_moves, check_beyond, check_bip39, check_pasted, check_kept, check_open, check_damaged, check_known_count]
+CHECKS = [check_unread, check_keys, check_next_screen, check_last_word, check_late_answer, check_together, check_once, check_after_button, check_offers, check_habits, check_guessed, check_mistyped, check_typo, check_moves, check_beyond, check_bip39, check_pasted, check_kept, check_open, check_damaged, check_known_count]

@@ -22,11 +22,11 @@ import plain  # noqa: E402
 
 SCRIPT = (pathlib.Path(__file__).resolve().parent / "typists.js").read_text()
 # How much of each word is typed, and what follows it. In turn, one paper is typed whole, and of the next one four letters of each word. In the
-# last one, both change from word to word. With a typo, words are typed whole, and one of them isn't as it should be.
+# last one, both change from word to word. With a typo, words are typed whole, and one of them isn't as it should be. If answers are late, it is the
+# last word, after whose first letters the paper is read, and the answer comes while more is typed.
 ENDS = ["space", "Enter", "Tab"]
-WAYS = [f"{short}, {end}" for short in ("least", "four", "whole") for end in ("nothing", *ENDS)] + [f"typo, {end}" for end in ENDS] + ["in turn, space", "mixed"]
-# With a key after each word, all papers must be right, or nearly all if one word has a typo, which can make 2 other words.
-TYPO_MOST = 0.02
+WAYS = [f"{short}, {end}" for short in ("least", "four", "whole") for end in ("nothing", *ENDS)] + [f"{what}, {end}" for what in ("typo", "late") for end in ENDS] + ["in turn, space", "mixed"]
+# With a key after each word, all papers must be right.
 SURE = [way for way in WAYS if way.endswith((", space", ", Enter", ", Tab"))]
 PAPERS = 500
 # So many papers of each way are typed in a check, and so many at most at a time.
@@ -45,13 +45,13 @@ def measured(page, way, papers):
 
 
 def check(page, _, papers=FEW, ways=WAYS, tell=lambda text: None):
-    """No paper goes wrong silently, and none at all that is typed in a sure way without a typo."""
+    """No paper goes wrong silently, and none at all that is typed in a sure way."""
     page.wait_title(say("home.title"))
     wrong = {}
     for way in ways:
         found = measured(page, way, papers)
         tell(f"{way}: {found['right']} right, {found['told']} told, {found['silent']} silent {found['examples'][:2]}")
-        if found["silent"] or (way in SURE and found["told"] > (TYPO_MOST * papers if way.startswith("typo") else 0)):
+        if found["silent"] or (way in SURE and found["told"]):
             wrong[way] = found
     if wrong:
         raise Failed(f"papers that are typed so go wrong: {wrong}")
