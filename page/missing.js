@@ -30,7 +30,7 @@ export function candidates(status, groupCount) {
 
 /**
  * Returns what wasn't typed, and so not tried: the keys of sentences, and the names that they have. Papers are known that come before others
- * of their group, and groups of which none is here.
+ * of their group, and groups of which none is here. There may be others after them.
  *
  * @param {Standing} status
  * @param {number} groupCount
@@ -44,7 +44,7 @@ export function untried(status, groupCount) {
     { key: `verdict.untried.${formOf(papers)}`, names: papers },
     { key: `verdict.untried.group.${formOf(groups)}`, names: groups },
   ].filter(({ names }) => names.length);
-  return told.length || !missing.length ? told : [{ key: "verdict.untried.others", names: [] }];
+  return named("which.after").length ? [...told, { key: "verdict.untried.others", names: [] }] : told;
 }
 
 /**

@@ -418,7 +418,7 @@ export const TEXTS = {
   "verdict.untried.many": "The papers {names} weren't typed, so they weren't tried.",
   "verdict.untried.group.one": "No paper of group {names} was tried.",
   "verdict.untried.group.many": "No paper of the groups {names} was tried.",
-  "verdict.untried.others": "Papers that you didn't type weren't tried.",
+  "verdict.untried.others": "No paper says how many papers there are. If there are others, they weren't tried.",
   "verdict.all.noted": "Every quorum of these papers gives your secret: it has the fingerprint that you noted, {fingerprint}. Tried: {quorums}. These papers have no others.",
   "verdict.all.own": "Every quorum gives the secret of this backup, with the fingerprint {fingerprint}. Tried: {quorums}. There are no others.",
   "verdict.all.same": "Every quorum of these papers gives the same secret, with the fingerprint {fingerprint}. Tried: {quorums}. These papers have no others. Without a noted fingerprint, nothing tells whether this secret is yours: with a mistyped passphrase, every quorum gives one and the same wrong secret.",

@@ -183,9 +183,9 @@ def check_untyped(page, see):
     """What wasn't typed is named in the box that says that no fault was found: a paper before others, a group without papers, or any other."""
     two, five = papers_of("2of3"), papers_of("2/2of4,1of1,1of1")
     for lines, passphrase, noted, told in [
-        ([two[0], two[2]], None, fingerprint_of(two, ""), say("verdict.untried.one", names="0.1")),
+        ([two[0], two[2]], None, fingerprint_of(two, ""), f"{say('verdict.untried.one', names='0.1')} {say('verdict.untried.others')}"),
         (two[:2], None, fingerprint_of(two, ""), say("verdict.untried.others")),
-        ([five[0], five[3], five[4]], None, fingerprint_of(five, ""), f"{say('verdict.untried.many', names='0.1, 0.2')} {say('verdict.untried.group.one', names='2')}"),
+        ([five[0], five[3], five[4]], None, fingerprint_of(five, ""), f"{say('verdict.untried.many', names='0.1, 0.2')} {say('verdict.untried.group.one', names='2')} {say('verdict.untried.others')}"),
     ]:
         begin(page, "check")
         take_all(page, lines)

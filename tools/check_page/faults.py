@@ -71,6 +71,7 @@ FAULTS = [
     ("the rest of a word isn't counted when it was mistyped", "page/word_field.js", "const typed = run.letters + tail;", 'const typed = run.letters + (isRest ? "" : tail);', of_page(lambda page: entry.check_typo(page, unseen))),
     ("letters before the answer to a paper stay in the next one", "page/word_field.js", "if (run) run.fields = run.fields.map(", "if (false) run.fields = run.fields.map(", of_page(lambda page: entry.check_late_answer(page, unseen))),
     ("few letters that make several words aren't told", "page/word_field.js", "if (isOfSeveral && typed.length <= TYPED_MOST)", "if (false)", of_page(lambda page: entry.check_together(page, unseen))),
+    ("papers beyond the named ones aren't told", "page/missing.js", 'named("which.after").length ?', "false ?", of_page(lambda page: astray.check_untyped(page, unseen))),
     ("papers that aren't cleared", "page/backups.js", "    this.#papers.clear();\n    this.#rest = {", "    this.#papers = new Papers(this.#engine);\n    this.#rest = {", of_page(agreement.check_memory)),
     ("a paper that was left out isn't cleared", "page/backups.js", "zero(...dropped, ...left,", "zero(...dropped,", of_page(agreement.check_memory)),
     ("a paper that was left out is forgotten", "page/backups.js", "if (error instanceof Refusal) this.leaveOut(", "if (false) this.leaveOut(", of_page(lambda page: astray.check_left_out(page, unseen))),

@@ -74,7 +74,7 @@ def check_unnoted():
         change(owner, "1of1", "1")
         owner.passphrase(PASSPHRASE, "")
         owner.wait(say("screen.end"))
-        check_unproved(owner, "change.repaired")
+        check_unproved(owner, "change.repaired.flagless")
         # Nothing shows that the new papers are right, so this isn't said at the end either.
         owner.type("\x03")
         owner.end(130, "ended.changed")

@@ -60,6 +60,8 @@ FAULTS = [
     ("an answer where the screen is full is lost", "screen", "            self._begun += key\n", "            pass\n", lambda see: steps.check_full()),
     ("the last line is wider than the screen", "__main__", "wrapped(text, max(1, terminal.size.columns - 1))", "[text]", looks.check),
     ("a damaged paper isn't named at the end", "collect", "    names = desk.damaged\n", "    names: list[str] = []\n", lambda see: slips.check_damaged()),
+    ("papers beyond the named ones aren't told", "which", 'any(why == "which.after" for _, why in missing)', "False", lambda see: repaired.check_untyped()),
+    ("of found words without the flag, the passphrase isn't in doubt", "change", 'if is_extendable else "change.repaired.flagless"', 'if True else ""', lambda see: change.check_unnoted()),
     ("an Enter too many leaves the missing papers", "which", "if typed == DRILL:", 'if typed in ("", DRILL):', lambda see: slips.check_number()),
     ("a backup with the flag is made anew from its secret", "change", "if desk.papers[0].is_extendable else", "if False else", tasks.check),
     ("another secret than the noted one is backed up anew", "change", "if not noted or gives(Tried((), fingerprint, None), noted):", "if True:", lambda see: change.check_flagless()),

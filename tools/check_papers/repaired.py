@@ -282,9 +282,9 @@ def check_untyped():
     """What wasn't typed is named together with what was found: a paper before others, a group without papers, or any other."""
     two, five = papers_of("2of3"), papers_of("2/2of4,1of1,1of1")
     for papers, lines, told in [
-        (two, [two[0], two[2]], say("verdict.untried.one", names="0.1")),
+        (two, [two[0], two[2]], f"{say('verdict.untried.one', names='0.1')} {say('verdict.untried.others')}"),
         (two, two[:2], say("verdict.untried.others")),
-        (five, [five[0], five[3], five[4]], f"{say('verdict.untried.many', names='0.1, 0.2')} {say('verdict.untried.group.one', names='2')}"),
+        (five, [five[0], five[3], five[4]], f"{say('verdict.untried.many', names='0.1, 0.2')} {say('verdict.untried.group.one', names='2')} {say('verdict.untried.others')}"),
     ]:
         noted = fingerprint_of(papers, "")
         for fingerprint, key, prompt in [(noted, "noted", "next.good"), ("", "same", "next.unnoted")]:

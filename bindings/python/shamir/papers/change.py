@@ -139,7 +139,8 @@ def _tell_done(screen: Screen, desk: Desk, plan: Plan, verdict: Verdict) -> None
     desk.clear()
     screen.clear(say("change.done.unproved" if is_unproved else "change.done"))
     if is_unproved:
-        screen.tell(say("change.repaired" if is_repaired else "change.unnoted"), "bad")
+        repaired = "change.repaired" if is_extendable else "change.repaired.flagless"
+        screen.tell(say(repaired if is_repaired else "change.unnoted"), "bad")
     tell_verdict(screen, verdict, "" if verdict.is_own else "good")
     screen.tell(say("quorum.what"))
     if is_unproved:

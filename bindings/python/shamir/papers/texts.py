@@ -225,6 +225,7 @@ OWN: Dict[str, str] = {
     "change.extendable": "The old papers have the extendable flag. So this takes no passphrase: each passphrase goes on giving the wallet that it gives now.",
     "change.bare.none": "If you don't have them here, press Enter alone at both questions.",
     "change.repaired": "Words of the old papers were found, and not read, and nothing was compared with a fingerprint that you noted. So nothing shows that these words are right.",
+    "change.repaired.flagless": "Words of the old papers were found, and not read, and nothing was compared with a fingerprint that you noted. So nothing shows that these words and the passphrase are right. If they aren't, the new papers are of another wallet.",
     "change.agree": "Each quorum that was tried, of the new papers as of the old ones, gives one and the same secret.",
     "change.failed.then": "If the result stays the same, keep the old papers, and destroy the new ones.",
     "end.changing": "If you end now, the program forgets the new papers. Those that you have written so far are no finished backup: destroy them, and keep the old ones.",

@@ -33,13 +33,14 @@ def _candidates(status: shamir.Status, count: int) -> Iterator[Tuple[str, str]]:
 
 
 def untried(status: shamir.Status, count: int) -> List[str]:
-    """Says what wasn't typed, and so not tried. Papers are known that come before others of their group, and groups of which none is here."""
+    """Says what wasn't typed, and so not tried. Papers are known that come before others of their group, and groups of which none is here.
+    There may be others after them."""
     missing = list(_candidates(status, count))
     papers = [name for name, why in missing if why == "which.between"]
     groups = [name.split(".")[0] for name, why in missing if why == "which.of_group"]
     told = [("verdict.untried", papers), ("verdict.untried.group", groups)]
     said = [say(f"{key}.{one_or_many(names)}", names=", ".join(names)) for key, names in told if names]
-    return said or [say("verdict.untried.others")] * bool(missing)
+    return [*said, *[say("verdict.untried.others")] * any(why == "which.after" for _, why in missing)]
 
 
 def ask_which(screen: Screen, desk: Desk, fault: str) -> Optional[Tuple[str, Plan]]:
