@@ -22,7 +22,7 @@ import { askWallet } from "./wallet.js";
 /** @typedef {import("./plan.js").Plan} Plan */
 /** @typedef {import("./desk.js").Kind} Kind */
 /** @typedef {"new" | "own"} Source */
-/** @typedef {Source | "papers" | "words"} Has what the owner has: a new wallet, the digits of a secret, papers, or words of BIP-39 */
+/** @typedef {Source | "papers" | "words" | "none"} Has what the owner has: a new wallet, the digits of a secret, papers, words of BIP-39, or a wallet alone */
 /** @typedef {{bytes: number, digits: Uint8Array | null, noted: string}} Secret */
 /** @typedef {{secret: Secret, dice: Uint8Array, passphrase: Uint8Array}} Typed */
 /** @typedef {"slip39" | "bip39"} From what digits are */
@@ -54,7 +54,7 @@ export async function makeBackup(desk) {
     if (has === null) return;
     if (has === "papers") {
       if ((await changePlan(desk)) === "end") return;
-    } else if (has !== "words" || (await agreeToNew())) {
+    } else if ((has !== "words" && has !== "none") || (await agreeToNew(has))) {
       chosen.source = has === "own" ? "own" : "new";
       made = await planAndCreate(desk, planned, chosen);
     }
@@ -71,7 +71,7 @@ export async function makeBackup(desk) {
  */
 async function askHas(first) {
   let has = first;
-  const options = /** @type {const} */ (["new", "papers", "own", "words"]).map((key) => ({ key, label: say(`has.${key}`), hint: say(`has.${key}.hint`) }));
+  const options = /** @type {const} */ (["new", "papers", "own", "words", "none"]).map((key) => ({ key, label: say(`has.${key}`), hint: say(`has.${key}.hint`) }));
   const answer = await ask(say("home.make"), [choice(say("has.legend"), options, first, (key) => (has = key))], [
     { key: "go", label: say("continue"), kind: "primary", take: () => (has === null ? say("has.missing") : null) },
     { key: "back", label: say("back"), kind: BACK },
@@ -79,10 +79,14 @@ async function askHas(first) {
   return answer === "go" ? has : null;
 }
 
-/** Says that words of BIP-39 can't become papers. Returns whether the owner wants papers of a new wallet. */
-async function agreeToNew() {
-  const answer = await ask(say("has.words.title"), [paragraph(say("has.words.what"), "bad")], [
-    { key: "new", label: say("has.words.new") },
+/**
+ * Says that what the owner has can't become papers. Returns whether the owner wants papers of a new wallet.
+ *
+ * @param {"words" | "none"} has
+ */
+async function agreeToNew(has) {
+  const answer = await ask(say(`has.${has}.title`), [paragraph(say(`has.${has}.what`), "bad")], [
+    { key: "new", label: say("has.make") },
     { key: "back", label: say("back"), kind: BACK },
   ]);
   return answer === "new";

@@ -66,8 +66,8 @@ def check_wallet(page, see):
 
 
 def check_has(page, see):
-    """Whether there is money in the wallet must be said first. Papers of it lead to 'Change the plan', its digits to their fields, and 12 or 24
-    words can't become papers. What was said stays on the way back."""
+    """Whether there is money in the wallet must be said first. Papers of it lead to 'Change the plan', its digits to their fields, and neither 12 or
+    24 words nor a wallet alone can become papers. What was said stays on the way back."""
     begin(page, "make", None)
     page.wait_text(say("has.legend"), say("step", at=1, count=9))
     page.push(say("continue"))
@@ -89,8 +89,13 @@ def check_has(page, see):
     page.lacks(say("secret.new", bytes=16, words=20), "a new secret is drawn for a wallet that holds money")
     for title in ("make.wallet", "make.plan", "home.make"):
         page.push(say("back"), to=say(title))
+    choose_has(page, "none", "has.none.title")
+    if page.evaluate("document.querySelector('#main > .bad').innerText") != say("has.none.what"):
+        raise Failed("that a wallet alone can't become papers isn't said in red")
+    see("a wallet alone")
+    page.push(say("back"), to=say("home.make"))
     choose_has(page, "words", "has.words.title")
-    page.push(say("has.words.new"), to=say("make.plan"))
+    page.push(say("has.make"), to=say("make.plan"))
     choose_wallet(page)
     page.wait_text(say("secret.new", bytes=16, words=20))
     if page.located("textbox", say("secret.digits")):

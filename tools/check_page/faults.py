@@ -102,7 +102,7 @@ FAULTS = [
     ("a secret that doesn't fit the words is taken at once", "page/digits.js", "bytes === BYTES[words] ? []", "true ? []", of_page(lambda page: choices.check_doubts(page, unseen))),
     ("a secret of one repeated byte is taken at once", "page/digits.js", "isRepeated ? [say", "false ? [say", of_page(lambda page: choices.check_doubts(page, unseen))),
     ("what was in doubt of other digits isn't asked again", "page/make_backup.js", '(this.#asked = "")', "{}", of_page(lambda page: choices.check_doubts(page, unseen))),
-    ("12 or 24 words become papers", "page/make_backup.js", 'has !== "words" || (await agreeToNew())', "true", of_page(lambda page: choices.check_has(page, unseen))),
+    ("12 or 24 words become papers", "page/make_backup.js", '(has !== "words" && has !== "none") || (await agreeToNew(has))', "true", of_page(lambda page: choices.check_has(page, unseen))),
     ("papers of an empty wallet are made without a word on that", "page/make_backup.js", '    isOwn ? null : paragraph(say("make.empty"), "note"),\n', "", of_page(lambda page: tasks.check_make(page, unseen))),
     ("digits aren't compared with the noted fingerprint", "page/judge.js", 'fault: noted !== "" && noted !== fingerprint ? "other" : ""', 'fault: ""', of_page(lambda page: refusals.check_values(page, unseen))),
     ("digits are typed once", "page/make_backup.js", 'return typed === again ? this.#noted.missing() : say("secret.differ");', "return this.#noted.missing();", of_page(lambda page: refusals.check_values(page, unseen))),

@@ -328,9 +328,18 @@ def check_back():
             raise Failed("the number of words that the wallet asks for isn't that of the papers")
         owner.expect(say("plan.sentence.any", needed=2, members=3))
         end_by_keys(owner)
-    with started("new", "2of3") as owner:
+    with started("new", "2of2") as owner:
+        owner.answer(say("new.plan.sure"), "u")
         owner.answer(wallet, "b")
+        owner.answer(say("new.plan.sure"), "b")
         owner.answer(plan, "b")
+        owner.wait(say("has.choose"))
+        end_by_keys(owner)
+    with started("new", "2of3") as owner:
+        # The command named the plan, so the question before is another one.
+        owner.answer(wallet, "b")
+        owner.answer(say("has.choose"), "1")
+        owner.answer(wallet, "b")
         owner.answer(say("has.choose"), "b")
         owner.answer(MENU, "replace")
         owner.answer(say("replace.how"), "b")
@@ -346,7 +355,7 @@ def check_back():
 
 
 def check_has():
-    """What the owner has says what is done. Papers lead to 'Change the plan', and 12 or 24 words can't become papers."""
+    """What the owner has says what is done. Papers lead to 'Change the plan', and neither 12 or 24 words nor a wallet alone can become papers."""
     has = say("has.choose")
     with started("new", has=None) as owner:
         owner.answer(has, "")
@@ -356,12 +365,13 @@ def check_has():
         owner.wait(paper_prompt(1))
         owner.expect(say("change.intro"))
         owner.answer(paper_prompt(1), "b")
-        owner.answer(has, "4")
-        owner.wait(say("has.words.choose"))
-        owner.expect(f"{say('has.words.title')} [!] {say('has.words.what')}")
-        owner.answer(say("has.words.choose"), "b")
-        owner.answer(has, "4")
-        owner.answer(say("has.words.choose"), "n")
+        for number, key in (("4", "words"), ("5", "none")):
+            owner.answer(has, number)
+            owner.wait(say("has.make.choose"))
+            owner.expect(f"{say(f'has.{key}.title')} [!] {say(f'has.{key}.what')}")
+            owner.answer(say("has.make.choose"), "b")
+        owner.answer(has, "5")
+        owner.answer(say("has.make.choose"), "n")
         owner.answer(say("new.plan.choose"), "1")
         owner.settle()
         owner.wait(say("new.secret"))
@@ -379,11 +389,10 @@ def check_doubts():
         owner.settle()
         owner.answer(say("new.secret"), "")
         owner.answer(say("secret.from.choose"), "2")
-        owner.wait(say("has.words.choose"))
+        owner.wait(say("has.make.choose"))
         owner.expect(f"{say('has.words.title')} [!] {say('has.words.what')}")
-        owner.answer(say("has.words.choose"), "b")
+        owner.answer(say("has.make.choose"), "b")
         owner.answer(say("has.choose"), DIGITS)
-        owner.answer(say("new.plan.choose"), "1")
         owner.settle()
         owner.answer(say("new.secret"), "")
         owner.answer(say("secret.from.choose"), "1")

@@ -7,7 +7,7 @@ from shamir.papers.change import change_plan
 from shamir.papers.desk import Desk, Paper
 from shamir.papers.drill import Verdict, tell_verdict
 from shamir.papers.line import wipe
-from shamir.papers.plan import Plan, noted_plan, said_plan, said_singles, said_survives
+from shamir.papers.plan import Plan, noted_plan, said_dangers, said_plan, said_singles, said_survives
 from shamir.papers.plan_choice import ask_plan
 from shamir.papers.proof import Made, note_and_drill
 from shamir.papers.questions import ask_new_passphrase
@@ -18,7 +18,7 @@ from shamir.papers.texts import say
 
 
 # What an owner may have of a wallet.
-HAS = ("new", "papers", "own", "words")
+HAS = ("new", "papers", "own", "words", "none")
 
 
 def make_backup(screen: Screen, desk: Desk, given: Optional[str]) -> None:
@@ -30,13 +30,13 @@ def make_backup(screen: Screen, desk: Desk, given: Optional[str]) -> None:
         try:
             if has == "papers":
                 return change_plan(screen, desk)
-            if has == "words":
-                _agree_to_new(screen)
+            if has in ("words", "none"):
+                _agree_to_new(screen, has)
             return _make(screen, desk, given, Choices(is_own=has == "own"))
         except (Back, Entropy) as by:
             desk.clear()
             screen.hold("")
-            given, has = None, "words" if isinstance(by, Entropy) else ""
+            has = "words" if isinstance(by, Entropy) else ""
 
 
 def _ask_has(screen: Screen) -> str:
@@ -49,11 +49,11 @@ def _ask_has(screen: Screen) -> str:
     return screen.choose(say("has.choose"), {str(number): key for number, key in enumerate(HAS, 1)}, has_back=True)
 
 
-def _agree_to_new(screen: Screen) -> None:
-    """Says that words of BIP-39 can't become papers. The owner goes on with a new wallet, or back."""
-    screen.clear(say("has.words.title"))
-    screen.tell(say("has.words.what"), "bad")
-    screen.choose(say("has.words.choose"), {"n": None}, has_back=True)
+def _agree_to_new(screen: Screen, has: str) -> None:
+    """Says that what the owner has can't become papers: words of BIP-39, or a wallet alone. The owner goes on with a new wallet, or back."""
+    screen.clear(say(f"has.{has}.title"))
+    screen.tell(say(f"has.{has}.what"), "bad")
+    screen.choose(say("has.make.choose"), {"n": None}, has_back=True)
 
 
 def _make(screen: Screen, desk: Desk, given: Optional[str], choices: Choices) -> None:
@@ -73,13 +73,17 @@ def _make(screen: Screen, desk: Desk, given: Optional[str], choices: Choices) ->
 
 
 def _plan_and_papers(screen: Screen, desk: Desk, given: Optional[str], choices: Choices) -> Tuple[Plan, List[Paper], str]:
-    """Asks for the plan, the wallet and the secret until the papers are made. The owner may go back from each to the one before."""
+    """Asks for the plan, the wallet and the secret until the papers are made. The owner may go back from each to the one before. If the command
+    named the plan, only its dangers are asked about."""
     while True:
         plan = ask_plan(screen, say("make.plan"), given=given)
         try:
             return (plan, *_wallet_and_papers(screen, desk, plan, choices))
         except Back:
-            given = None
+            if plan.text != given:
+                given = None
+            elif not said_dangers(plan):
+                raise
 
 
 def _wallet_and_papers(screen: Screen, desk: Desk, plan: Plan, choices: Choices) -> Tuple[List[Paper], str]:
