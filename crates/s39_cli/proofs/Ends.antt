@@ -14,7 +14,7 @@ use Rattle.s39_cli.specs.declared.runner.Ended.TheVariants.{With, NoMemory}
 use Rattle.s39_cli.specs.declared.work.Work.{Work}
 use Rattle.s39_command.specs.Command.{AnswersWords, GivesCall, shamir_app}
 use Rattle.s39_cli.specs.Ending.{Delivers, DoesDrawn, DoesJob, EndsAtOnce, IsDoneWith, Ends, EndsAs, EndsUnread, EndsWithoutJob, HasStatus, IsTyped, OnEnd, TakesCall}
-use Rattle.s39_cli.specs.Values.{AreDrawn, HasLong, LacksValue, TakesValues, Told, most_drawn, text_of}
+use Rattle.s39_cli.specs.Values.{AreDrawn, HasSomeBad, LacksValue, TakesValues, Told, most_drawn, text_of}
 use Rattle.s39_cli.specs.Outcome.{HasBadPlan}
 use Rattle.s39_cli.specs.Work.{IsWorkOf, IsWorkOutput}
 use Rattle.s39_cli.proofs.Deliveries.{Delivers-map}
@@ -93,15 +93,15 @@ module _ {R W : Type 0} (told : Told) (remaining : R → Option (List ℕ)) (con
         subst (Ends told remaining contents at_terminal words reader writer) (sym same) (ends_by_call 2 reader writer (inl (typed, (refl, refl, refl))))
 
     pub ends_unread : (behind : R) (ended : Ended R W) (P : Type 0) → (IsTyped at_terminal call.job → ⊥) → LacksValue call.files reader behind
-        → (P → HasLong told remaining call.files reader) → EndsUnread P behind writer ended
+        → (P → HasSomeBad told remaining call.files reader) → EndsUnread P behind writer ended
         → Ends told remaining contents at_terminal words reader writer ended
-    ends_unread behind NoMemory P untyped lacks long ends = tt
-    ends_unread behind (With status read_to written_to) P untyped lacks long ends =
+    ends_unread behind NoMemory P untyped lacks bad ends = tt
+    ends_unread behind (With status read_to written_to) P untyped lacks bad ends =
         ends_by_call status read_to written_to (inr (inl (
           untyped,
           (
             subst (LacksValue call.files reader) (sym ends.0) lacks,
-            (⊎_elim (λ two. inl (two.0, long two.1)) (λ three. inr three) ends.1.0, ends.1.1),
+            (⊎_elim (λ two. inl (two.0, bad two.1)) (λ three. inr three) ends.1.0, ends.1.1),
           ),
         )))
 

@@ -14,6 +14,8 @@ use Rattle.s39_command.specs.Command.{AsksForText, AreSameCalls, AreSameTexts, H
 use Rattle.s39_command.specs.Jobs.{or_empty}
 use Rattle.s39_command.proofs.Faults.{one_fault}
 use Rattle.s39_command.proofs.OneCall.{one_call, said_same}
+use Rattle.s39_cli.specs.declared.values.BadValue.{BadValue}
+use Rattle.s39_cli.specs.declared.values.BadValue.TheVariants.{TooLong, Mnemonic}
 use Rattle.s39_cli.specs.declared.values.Until.{Until}
 use Rattle.s39_cli.specs.declared.values.Until.TheVariants.{LineEnd}
 use Rattle.s39_cli.specs.Ending.{AreAllOf, Delivers, DoesDrawn, DoesJob, EndsAs, EndsAtOnce, IsDoneWith, IsOutcome, IsTyped, TakesCall}
@@ -21,7 +23,7 @@ use Rattle.s39_cli.specs.Headline.{OneOutcome}
 use Rattle.s39_cli.specs.OneEnding.{OneEnding, SomeEnding, telling}
 use Rattle.s39_cli.specs.Outcome.{GivesPlan, HasBadSecret, HasBadPlan, HasBadCursor, HasBadFingerprint, HasBadNames, IsNotHexadecimal, IsReady}
 use Rattle.s39_cli.specs.Outcome.{WritesFingerprint, WritesNames}
-use Rattle.s39_cli.specs.Values.{HasLong, HasLongValue, IsLongFile, IsLongLine, IsValueIn, TakesValue, TakesValues, end_in, part, text_of}
+use Rattle.s39_cli.specs.Values.{HasBad, HoldsBad, IsBadFile, IsBadLine, IsMnemonic, IsValueIn, TakesValue, TakesValues, end_in, part, text_of}
 use Rattle.s39_cli.specs.Values.{without_line_end}
 use Rattle.s39_cli.proofs.SameValues.{same_done, same_typed, same_values_write_the_same}
 use Rattle.s39_cli.proofs.Works.{no_cause}
@@ -50,12 +52,13 @@ module _ (until : Until) (known : List ℕ) where
     one_rest known a b (part until known) (subst (Consumes (Some known) a) is.all is.read) (subst (Consumes (Some known) b) also.all also.read),
   )
 
-  -- a value isn't too long
-  not_long : (left : Option (List ℕ)) (value : List ℕ) → IsValueIn until (Some known) left value → HasLongValue until (Some known) → ⊥
-  not_long left value is long =
+  -- a value is neither too long nor a mnemonic
+  not_bad : (bad : BadValue) (left : Option (List ℕ)) (value : List ℕ) → IsValueIn until (Some known) left value → HoldsBad bad until (Some known) → ⊥
+  not_bad TooLong left value is long =
       let fits = is.fits in
       let same = ap (λ (bytes : List ℕ). length bytes) (value_of_part left value is) in
       omega (arith, fits, same, long)
+  not_bad Mnemonic left value is mnemonic = is.no_mnemonic (subst IsMnemonic (sym (value_of_part left value is)) mnemonic.1)
 
 -- ---- the values of a call
 
@@ -84,36 +87,36 @@ module _ {R : Type 0} (files : Text → List ℕ) (remaining : R → Option (Lis
       let pair = one_value (end_in b.now) (files b.now) file.2.0 next.2.0 read got x next.2.1 in
       (is ∙ ap (λ (l : List ℕ). Some l) pair.0 ∙ sym also, (alike.0, ap remaining file.1 ∙ alike.1, ap remaining next.1 ∙ alike.2))
 
-  no_long_file : (file given : Option (Bor Text)) (w : Option (List ℕ)) (first last : R) → text_in file ≡ text_in given → IsLongFile (telling files) file
-      → TakesValue (telling files) remaining given w first last → ⊥
-  no_long_file None given w first last same long takes = long
-  no_long_file (Some a) None w first last same long takes = cc same
-  no_long_file (Some a) (Some b) w first last same long (got, also, inl line) = long.0 (said_same same ∙ line.0)
-  no_long_file (Some a) (Some b) w first last same long (got, also, inr file) =
-      not_long (end_in b.now) (files b.now) file.2.0 got file.2.1
-      (subst (λ (name : Text). HasLongValue (end_in name) (Some (files name))) (said_same same) long.1)
+  no_bad_file : (bad : BadValue) (file given : Option (Bor Text)) (w : Option (List ℕ)) (first last : R) → text_in file ≡ text_in given
+      → IsBadFile bad (telling files) file → TakesValue (telling files) remaining given w first last → ⊥
+  no_bad_file bad None given w first last same is takes = is
+  no_bad_file bad (Some a) None w first last same is takes = cc same
+  no_bad_file bad (Some a) (Some b) w first last same is (got, also, inl line) = is.0 (said_same same ∙ line.0)
+  no_bad_file bad (Some a) (Some b) w first last same is (got, also, inr file) =
+      not_bad (end_in b.now) (files b.now) bad file.2.0 got file.2.1
+      (subst (λ (name : Text). HoldsBad bad (end_in name) (Some (files name))) (said_same same) is.1)
 
-  no_long_line : (file given : Option (Bor Text)) (w : Option (List ℕ)) (old first last : R) → text_in file ≡ text_in given → AreAlike old first
-      → IsLongLine (telling files) remaining file old → TakesValue (telling files) remaining given w first last → ⊥
-  no_long_line None given w old first last same alike long takes = long.0
-  no_long_line (Some a) None w old first last same alike long takes = cc same
-  no_long_line (Some a) (Some b) w old first last same alike long (got, also, inl line) =
-      not_long LineEnd alike.0 (remaining last) got (subst (λ (o : Option (List ℕ)). IsValueIn LineEnd o (remaining last) got) alike.2 line.1)
-      (subst (HasLongValue LineEnd) alike.1 long.1)
-  no_long_line (Some a) (Some b) w old first last same alike long (got, also, inr file) = file.0 (sym (said_same same) ∙ long.0)
+  no_bad_line : (bad : BadValue) (file given : Option (Bor Text)) (w : Option (List ℕ)) (old first last : R) → text_in file ≡ text_in given
+      → AreAlike old first → IsBadLine (telling files) remaining bad file old → TakesValue (telling files) remaining given w first last → ⊥
+  no_bad_line bad None given w old first last same alike is takes = is.0
+  no_bad_line bad (Some a) None w old first last same alike is takes = cc same
+  no_bad_line bad (Some a) (Some b) w old first last same alike is (got, also, inl line) =
+      not_bad LineEnd alike.0 bad (remaining last) got (subst (λ (o : Option (List ℕ)). IsValueIn LineEnd o (remaining last) got) alike.2 line.1)
+      (subst (HoldsBad bad LineEnd) alike.1 is.1)
+  no_bad_line bad (Some a) (Some b) w old first last same alike is (got, also, inr file) = file.0 (sym (said_same same) ∙ is.0)
 
-  -- values that are read aren't too long
-  no_long : (texts given : Texts) (v w : Option (List ℕ)) (old first last : R) → AreSameTexts texts given → AreAlike old first
-      → HasLong (telling files) remaining texts old → TakesValues (telling files) remaining given v w first last → ⊥
-  no_long texts given v w old first last same alike (inl (inl long)) takes =
-      no_long_file texts.secret given.secret v first takes.0 same.secret long takes.1
-  no_long texts given v w old first last same alike (inl (inr long)) takes =
-      no_long_file texts.passphrase given.passphrase w takes.0 last same.passphrase long takes.2
-  no_long texts given v w old first last same alike (inr (inl long)) takes =
-      no_long_line texts.secret given.secret v old first takes.0 same.secret alike long takes.1
-  no_long texts given v w old first last same alike (inr (inr (between, (read, is), long))) takes =
-      let next = one_take texts.secret given.secret read v old between first takes.0 same.secret alike is takes.1 in
-      no_long_line texts.passphrase given.passphrase w between takes.0 last same.passphrase next.1 long takes.2
+  -- what is read as values isn't refused
+  no_bad : (bad : BadValue) (texts given : Texts) (v w : Option (List ℕ)) (old first last : R) → AreSameTexts texts given → AreAlike old first
+      → HasBad (telling files) remaining bad texts old → TakesValues (telling files) remaining given v w first last → ⊥
+  no_bad bad texts given v w old first last same alike (inl (inl is)) takes =
+      no_bad_file bad texts.secret given.secret v first takes.0 same.secret is takes.1
+  no_bad bad texts given v w old first last same alike (inl (inr is)) takes =
+      no_bad_file bad texts.passphrase given.passphrase w takes.0 last same.passphrase is takes.2
+  no_bad bad texts given v w old first last same alike (inr (inl is)) takes =
+      no_bad_line bad texts.secret given.secret v old first takes.0 same.secret alike is takes.1
+  no_bad bad texts given v w old first last same alike (inr (inr (between, (read, taken), is))) takes =
+      let next = one_take texts.secret given.secret read v old between first takes.0 same.secret alike taken takes.1 in
+      no_bad_line bad texts.passphrase given.passphrase w between takes.0 last same.passphrase next.1 is takes.2
 
 -- ---- whether a job can be begun
 
@@ -285,13 +288,13 @@ module _ {R W : Type 0} (files : Text → List ℕ) (remaining : R → Option (L
     one_end call other same back (inr (inr also)) (inl typed) = absurd (also.0 (same_typed at_terminal other.job call.job back.values typed.0))
     one_end call other same back (inr (inl (untyped, (lacks, (inr failed, kept_as))))) also = absurd (sound failed)
     one_end call other same back also (inr (inl (untyped, (lacks, (inr failed, kept_as))))) = absurd (well failed)
-    one_end call other same back (inr (inl (untyped, (lacks, (inl long, kept_as))))) (inr (inl (unlike, (wants, (inl also, left_as))))) =
-        nothing held kept reader first writer output held_is kept_is status another read_to last written_to given_to (long.0 ∙ sym also.0) kept_as
+    one_end call other same back (inr (inl (untyped, (lacks, (inl bad, kept_as))))) (inr (inl (unlike, (wants, (inl also, left_as))))) =
+        nothing held kept reader first writer output held_is kept_is status another read_to last written_to given_to (bad.0 ∙ sym also.0) kept_as
         left_as
-    one_end call other same back (inr (inl (untyped, (lacks, (inl long, kept_as))))) (inr (inr (unlike, (s, p, behind, takes, does)))) =
-        absurd (no_long files remaining call.files other.files s p reader first behind same.files alike long.1 takes)
-    one_end call other same back (inr (inr (unlike, (s, p, behind, takes, does)))) (inr (inl (untyped, (lacks, (inl long, kept_as))))) =
-        absurd (no_long files remaining other.files call.files s p first reader behind back.files (alike.0, alike.2, alike.1) long.1 takes)
+    one_end call other same back (inr (inl (untyped, (lacks, (inl bad, kept_as))))) (inr (inr (unlike, (s, p, behind, takes, does)))) =
+        absurd (no_bad files remaining bad.1.0 call.files other.files s p reader first behind same.files alike bad.1.1 takes)
+    one_end call other same back (inr (inr (unlike, (s, p, behind, takes, does)))) (inr (inl (untyped, (lacks, (inl bad, kept_as))))) =
+        absurd (no_bad files remaining bad.1.0 other.files call.files s p first reader behind back.files (alike.0, alike.2, alike.1) bad.1.1 takes)
     one_end call other same back (inr (inr (untyped, (s, p, behind, takes, does)))) (inr (inr (unlike, (t, q, behind', takes', does')))) =
         let secret = one_take files remaining call.files.secret other.files.secret s t reader takes.0 first takes'.0 same.files.secret alike
         takes.1 takes'.1 in

@@ -1,5 +1,5 @@
 -- What a reader gives byte by byte, and in a part.
-use Rattle.std.proofs.Common.{◌≡◌, ◌≢◌, ◌∙◌, ◌++◌, ◌≤◌, ◌<◌, ℕ, List, [], ◌∷◌, Option, Some, None, Result, Ok, ap, append-nil, append_assoc, arith, length, IfSome, refl, slice_index_or, subst, sym, take}
+use Rattle.std.proofs.Common.{◌≡◌, ◌≢◌, ◌∙◌, ◌++◌, ◌≤◌, ◌<◌, ℕ, List, [], ◌∷◌, Option, Some, None, Result, Ok, Err, ap, append-nil, append_assoc, arith, length, IfSome, refl, slice_index_or, subst, sym, take}
 use Rattle.std.proofs.Common.{◌+◌, ◌-◌, Bool, true, false, cond, length-append, ⊎_elim}
 use Rattle.std.proofs.lemmas.Bool.{cases_lt}
 use Rattle.std.proofs.KnownBytes.{Consumes-kept, Consumes-trans, Keeps-trans}
@@ -7,7 +7,10 @@ use Rattle.std.specs.Io.KnownBytes.{Consumes, IsAtEnd, Keeps, ReadConsumes}
 use Rattle.std.specs.Io.BufRead.{ends_with_byte, strip_last, take_through}
 use Rattle.std.proofs.BufReadLemmas.{take_through-append}
 use Rattle.std.proofs.lemmas.List.{length-take-le, take_all, take_at}
-use Rattle.s39_cli.specs.Values.{HasLongValue, IsBegunPart, IsOpen, IsPart, IsValueIn, TakesByte, part, without_line_end}
+use Rattle.s39_words.specs.declared.word_error.WordError.{WordError}
+use Rattle.s39_words.specs.Reading.{reading}
+use Rattle.s39_cli.specs.declared.values.BadValue.TheVariants.{TooLong, Mnemonic}
+use Rattle.s39_cli.specs.Values.{HoldsBad, IsBad, IsBegunPart, IsMnemonic, IsOpen, IsPart, IsValueIn, TakesByte, part, without_line_end}
 use Rattle.s39_cli.specs.declared.values.Until.{Until}
 use Rattle.s39_cli.specs.declared.values.Until.TheVariants.{End, LineEnd}
 
@@ -126,24 +129,38 @@ uncut room bytes all is short =
     (cases_lt room (length all)))
 
 pub value_of_part : (until : Until) (told left : Option (List ℕ)) (bytes : List ℕ) → IsPart until 1027 told left bytes
-    → length (without_line_end bytes) ≤ 1024 → IsValueIn until told left (without_line_end bytes)
-value_of_part until told left bytes is fits = record {
+    → length (without_line_end bytes) ≤ 1024 → (IsMnemonic (without_line_end bytes) → ⊥) → IsValueIn until told left (without_line_end bytes)
+value_of_part until told left bytes is fits no_mnemonic = record {
   bytes = bytes;
   read = is.read;
   all = whole told is.all;
   value_is = refl;
   fits = fits;
+  no_mnemonic = no_mnemonic;
 }
   where
     whole : (t : Option (List ℕ)) → IfSome t (λ known. bytes ≡ take 1027 (part until known)) → IfSome t (λ known. bytes ≡ part until known)
     whole None all = tt
     whole (Some known) all = uncut 1027 bytes (part until known) all (omega (arith, fits, line_end_length bytes))
 
+pub refused_is_no_mnemonic : (text : List ℕ) (error : WordError) → reading text ≡ Err error → IsMnemonic text → ⊥
+refused_is_no_mnemonic text error refused (share, reads) = let same = sym refused ∙ reads in cc
+
+pub mnemonic_of_part : (until : Until) (told left : Option (List ℕ)) (bytes : List ℕ) → IsPart until 1027 told left bytes
+    → length (without_line_end bytes) ≤ 1024 → IsMnemonic (without_line_end bytes) → HoldsBad Mnemonic until told
+mnemonic_of_part until told left bytes is fits mnemonic = go told is.all
+  where
+    go : (t : Option (List ℕ)) → IfSome t (λ known. bytes ≡ take 1027 (part until known)) → HoldsBad Mnemonic until t
+    go None all = tt
+    go (Some known) all =
+        let whole = uncut 1027 bytes (part until known) all (omega (arith, fits, line_end_length bytes)) in
+        subst (λ xs. IsBad Mnemonic (without_line_end xs)) whole (fits, mnemonic)
+
 pub long_of_part : (until : Until) (told left : Option (List ℕ)) (bytes : List ℕ) → IsPart until 1027 told left bytes
-    → 1024 < length (without_line_end bytes) → HasLongValue until told
+    → 1024 < length (without_line_end bytes) → HoldsBad TooLong until told
 long_of_part until told left bytes is long = go told is.all
   where
-    go : (t : Option (List ℕ)) → IfSome t (λ known. bytes ≡ take 1027 (part until known)) → HasLongValue until t
+    go : (t : Option (List ℕ)) → IfSome t (λ known. bytes ≡ take 1027 (part until known)) → HoldsBad TooLong until t
     go None all = tt
     go (Some known) all =
         let whole = part until known in

@@ -17,6 +17,7 @@ use Rattle.s39_command.specs.declared.command.Job.{Job}
 use Rattle.s39_command.specs.declared.command.Job.TheVariants as job
 use Rattle.s39_cli.specs.declared.person.Person.{Person}
 use Rattle.s39_cli.specs.declared.person.Terminals.{Terminals}
+use Rattle.s39_cli.specs.declared.values.BadValue.{BadValue}
 use Rattle.s39_cli.specs.declared.runner.Ended.{Ended}
 use Rattle.s39_cli.specs.declared.runner.Ended.TheVariants.{With, NoMemory}
 use Rattle.s39_cli.specs.declared.work.NoWork.{NoWork}
@@ -343,11 +344,11 @@ module _ {E : Type 0} (contents : E → Option (List ℕ)) where
       said_unbegun secret (no_work.Names names) ended bad says = refused_unbegun ended (formed_by_names j bad) says
 
       -- a job whose file of random bytes isn't read
-      pub said_undrawn : {W : Type 0} (name : Text) (ended : Ended R W) → OnEnd ended (λ status read_to written_to. status ≡ 3)
-          → IsSaidUnread contents name old new ended → OnStatus ended (λ status. 2 ≤ status)
+      pub said_undrawn : {W : Type 0} (IsCause : BadValue → Type 0) (name : Text) (ended : Ended R W)
+          → OnEnd ended (λ status read_to written_to. status ≡ 3) → IsSaidUnread contents IsCause name old new ended → OnStatus ended (λ status. 2 ≤ status)
           → IsSaidOfJob remaining contents terminals bare j reader old new ended
-      said_undrawn name NoMemory is says some = absurd some
-      said_undrawn name (With status read_to written_to) is (long, (reason, says)) some = record {
+      said_undrawn IsCause name NoMemory is says some = absurd some
+      said_undrawn IsCause name (With status read_to written_to) is (refused, (reason, says)) some = record {
         done = λ none. absurd (omega (arith, none, is));
         refused = λ one. absurd (omega (arith, one, is));
         formless = λ one. absurd (omega (arith, one, is));

@@ -17,8 +17,9 @@ use Rattle.s39_cli.specs.declared.runner.Ended.{Ended}
 use Rattle.s39_cli.specs.declared.runner.Ended.TheVariants.{With, NoMemory}
 use Rattle.s39_cli.specs.Ending.{IsTyped, status_in}
 use Rattle.s39_cli.specs.Said.{AreInputLines, AreLines, IsNamedIn, IsSaid, IsSaidAs, IsSaidOfCall, IsSaidOfJob, IsSaidUnread, IsSaidWithoutJob, OnStatus, Says}
-use Rattle.s39_cli.specs.Said.{asking_lines, file_line, is_attended, is_bare, line_if, long_line, memory_line, passphrase_asked_line, secret_asked_line, secret_line, typed_line, types_mnemonics, types_value, typing_line}
-use Rattle.s39_cli.specs.Values.{TakesValues, Told, input_name, terminal_name}
+use Rattle.s39_cli.specs.Said.{asking_lines, bad_line, file_line, is_attended, is_bare, line_if, memory_line, passphrase_asked_line, secret_asked_line, secret_line, typed_line, types_mnemonics, types_value, typing_line}
+use Rattle.s39_cli.specs.declared.values.BadValue.{BadValue}
+use Rattle.s39_cli.specs.Values.{HasBad, TakesValues, Told, input_name, terminal_name}
 use Rattle.s39_cli.proofs.Said.{no_lines, says_both}
 
 -- ---- the program
@@ -91,16 +92,19 @@ module _ {R E : Type 0} (told : Told) (remaining : R → Option (List ℕ)) (con
           says_both contents old mid new (asking_lines terminals call.files) text first
           (record { same_terminals = s.same_terminals; taken = s.taken; silent = s.silent })
 
-      pub said_unread : {W : Type 0} (name : Text) (ended : Ended R W) → OnStatus ended (λ status. 2 ≤ status) → IsNamedIn call.files name
-          → IsSaidUnread contents name told_person new ended → IsSaid told remaining contents terminals words reader old new ended
-      said_unread name NoMemory other named says = absurd other
-      said_unread name (With status read_to written_to) other named (long, (reason, says)) =
+      pub said_unread : {W : Type 0} (IsCause : BadValue → Type 0) → ((bad : BadValue) → IsCause bad → HasBad told remaining bad call.files reader)
+          → (name : Text) (ended : Ended R W) → OnStatus ended (λ status. 2 ≤ status) → IsNamedIn call.files name
+          → IsSaidUnread contents IsCause name told_person new ended → IsSaid told remaining contents terminals words reader old new ended
+      said_unread IsCause has name NoMemory other named says = absurd other
+      said_unread IsCause has name (With status read_to written_to) other named (refused, (reason, says)) =
           by_call call found taken faultless status (record {
             done = λ none. absurd (omega (arith, none, other));
             typed = λ typed. absurd (untyped typed);
             refused = λ one. absurd (omega (arith, one, other));
             formless = λ one. absurd (omega (arith, one, other));
-            wrong = λ two. inr (long_line name, inr (name, named, refl), then (long_line name) (long two));
+            wrong = λ two.
+                let (bad, caused, line) = refused two in
+                inr (bad_line name bad, inr (name, bad, named, has bad caused, refl), then (bad_line name bad) line);
             failed = λ _. (
               false,
               [],

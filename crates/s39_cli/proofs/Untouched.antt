@@ -74,10 +74,10 @@ module _ {R W : Type 0} (writer : W) where
   typed_untouched reader words ended is =
       subst (λ e. IsUntouchedIfRefused words e writer) (sym is) (unwritten words (With 2 reader writer) refl)
 
-  pub unread_untouched : (is_long : Type 0) (reader : R) (words : List Text) (ended : Ended R W) → EndsUnread is_long reader writer ended
+  pub unread_untouched : (is_bad : Type 0) (reader : R) (words : List Text) (ended : Ended R W) → EndsUnread is_bad reader writer ended
       → IsUntouchedIfRefused words ended writer
-  unread_untouched is_long reader words NoMemory ends = tt
-  unread_untouched is_long reader words (With status read_to written_to) ends = unwritten words (With status read_to written_to) ends.1.1
+  unread_untouched is_bad reader words NoMemory ends = tt
+  unread_untouched is_bad reader words (With status read_to written_to) ends = unwritten words (With status read_to written_to) ends.1.1
 
   pub jobless_untouched : (contents : W → Option (List ℕ)) (reader : R) (no_job : NoJob) (words : List Text) (ended : Ended R W)
       → EndsWithoutJob contents no_job reader writer ended → IsUntouchedIfRefused words ended writer

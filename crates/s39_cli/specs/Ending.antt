@@ -19,7 +19,7 @@ use Rattle.s39_cli.specs.declared.work.NoWork.TheVariants as no_work
 use Rattle.s39_command.specs.Command.{AsksForText, GivesBadValues, GivesCall, shamir_app}
 use Rattle.s39_command.specs.declared.command.BadValues.{BadValues}
 use Rattle.s39_command.specs.declared.command.Call.{Call}
-use Rattle.s39_cli.specs.Values.{AreDrawn, HasLong, LacksValue, TakesValues, Told, terminal_name, text_of}
+use Rattle.s39_cli.specs.Values.{AreDrawn, HasSomeBad, LacksValue, TakesValues, Told, terminal_name, text_of}
 use Rattle.s39_cli.specs.Outcome.{GivesPlan, HasBadSecret, HasBadPlan, HasBadCursor, HasBadFingerprint, HasBadNames, IsJobOutput, IsReady, status_of}
 
 -- the text is written for the input by an answer with this exit status
@@ -59,9 +59,9 @@ IsFrom told left input = ((input.ended ≡ true) × AreAllOf told input.bytes) �
 abbrev pub HoldsBeginning : Option (List ℕ) → Option (List ℕ) → List ℕ → Type 0
 HoldsBeginning old new text = (lost : List ℕ) × Keeps (append_known old text) (append_known new lost)
 
--- nothing is written, and the exit status is 2 for a value that is too long, and 3 for a file or a read that failed
+-- nothing is written, and the exit status is 2 if what was read is no value, and 3 for a file or a read that failed
 abbrev pub EndsUnwritten : {W : Type 0} → Type 0 → W → ℕ → W → Type 0
-EndsUnwritten is_long writer status written_to = (((status ≡ 2) × is_long) ⊎ (status ≡ 3)) × (written_to ≡ writer)
+EndsUnwritten is_bad writer status written_to = (((status ≡ 2) × is_bad) ⊎ (status ≡ 3)) × (written_to ≡ writer)
 
 module _ {R W : Type 0} where
   -- this holds for the exit status and the devices at the end, unless memory ran out
@@ -124,12 +124,12 @@ module _ {R W : Type 0} (told : Told) (remaining : R → Option (List ℕ)) (con
       × Delivers remaining contents (IsOutcome job given passphrase) reader writer status read_to written_to)
 
   -- The call is done. In this order: a job whose random bytes would be typed ends with 2, and nothing is read or written; if a
-  -- value isn't read, the status is 2 because one is too long, or 3, and nothing is written; else the job with the values is done.
+  -- value isn't read, the status is 2 because one is too long or a mnemonic, or 3, and nothing is written; else the job with the values is done.
   abbrev pub TakesCall : Bool → Call → R → W → ℕ → R → W → Type 0
   TakesCall at_terminal call reader writer status read_to written_to =
       (IsTyped at_terminal call.job × EndsAtOnce 2 reader writer status read_to written_to)
       ⊎ ((IsTyped at_terminal call.job → ⊥) × (LacksValue call.files reader read_to
-      × EndsUnwritten (HasLong told remaining call.files reader) writer status written_to))
+      × EndsUnwritten (HasSomeBad told remaining call.files reader) writer status written_to))
       ⊎ ((IsTyped at_terminal call.job → ⊥) × ((secret passphrase : Option (List ℕ)) × (behind : R)
       × TakesValues told remaining call.files secret passphrase reader behind × DoesDrawn call.job
       (text_of secret call.given.secret) (text_of passphrase call.given.passphrase) behind writer status read_to written_to))
@@ -173,10 +173,10 @@ module _ {R W : Type 0} (contents : W → Option (List ℕ)) where
   EndsWithoutJob no_job.Memory reader writer ended = ended ≡ NoMemory
 
 module _ {R W : Type 0} where
-  -- how a call ends if one of its values isn't read, because it is too long or for another cause
+  -- how a call ends if one of its values isn't read, because what was read is none, or for another cause
   abbrev pub EndsUnread : Type 0 → R → W → Ended R W → Type 0
-  EndsUnread is_long reader writer ended =
-      OnEnd ended (λ status read_to written_to. (read_to ≡ reader) × EndsUnwritten is_long writer status written_to)
+  EndsUnread is_bad reader writer ended =
+      OnEnd ended (λ status read_to written_to. (read_to ≡ reader) × EndsUnwritten is_bad writer status written_to)
 
   -- how a job ends that isn't begun
   abbrev pub EndsUnbegun : NoWork → R → W → Ended R W → Type 0

@@ -37,7 +37,9 @@ use Rattle.s39_cli.specs.declared.work.Work.{Work}
 use Rattle.s39_cli.specs.declared.work.Work.TheVariants as work
 use Rattle.s39_cli.specs.Ending.{AreAllOf, IsTyped, OnEnd}
 use Rattle.s39_cli.specs.Outcome.{IsCursor, IsReady, status_of_refusal}
-use Rattle.s39_cli.specs.Values.{TakesValues, Told, input_name, terminal_name}
+use Rattle.s39_cli.specs.declared.values.BadValue.{BadValue}
+use Rattle.s39_cli.specs.declared.values.BadValue.TheVariants.{TooLong, Mnemonic}
+use Rattle.s39_cli.specs.Values.{HasBad, TakesValues, Told, input_name, terminal_name}
 
 module _ {E : Type 0} (contents : E → Option (List ℕ)) where
   -- This text is said to a person at the same terminals. If the device has taken all that was said, it had taken all before, and the
@@ -111,9 +113,14 @@ abbrev pub file_line : Text → Text → Text
 file_line name reason =
     codes "shamir: " ++ cut_to longest_name name ++ codes ": " ++ cut_to longest_reason reason ++ codes "\n"
 
--- said for a value that is too long, in the file of this name
-abbrev pub long_line : Text → Text
-long_line name = file_line name (codes "the value has more than 1024 bytes")
+-- why a text is no value
+abbrev pub reason_of : BadValue → Text
+reason_of TooLong = codes "the value has more than 1024 bytes"
+reason_of Mnemonic = codes "this is a mnemonic, and neither a secret nor a passphrase"
+
+-- said if what the file of this name holds is no value, for this cause
+abbrev pub bad_line : Text → BadValue → Text
+bad_line name bad = file_line name (reason_of bad)
 
 -- the greatest number of quorums that is told
 abbrev pub most_told : ℕ
@@ -277,9 +284,10 @@ HasFormlessPlan _ = ⊥
 abbrev pub IsNamedIn : Texts → Text → Type 0
 IsNamedIn files name = (text_in files.secret ≡ Some name) ⊎ (text_in files.passphrase ≡ Some name)
 
--- said of a value: that the secret isn't hexadecimal, or that the value of a file is too long
-abbrev pub IsValueLine : Texts → Text → Type 0
-IsValueLine files text = (text ≡ secret_line) ⊎ ((name : Text) × IsNamedIn files name × (text ≡ long_line name))
+-- said of a value: that the secret isn't hexadecimal, or why what a file holds is no value, which is so of a file
+abbrev pub IsValueLine : {R : Type 0} → Told → (R → Option (List ℕ)) → Texts → R → Text → Type 0
+IsValueLine told remaining files reader text = (text ≡ secret_line)
+    ⊎ ((name : Text) × (bad : BadValue) × IsNamedIn files name × HasBad told remaining bad files reader × (text ≡ bad_line name bad))
 
 -- this is the input of all that a reader has, if it tells its bytes
 abbrev pub IsAllOf : Option (List ℕ) → Input → Type 0
@@ -312,7 +320,7 @@ module _ {R E : Type 0} (told : Told) (remaining : R → Option (List ℕ)) (con
         × Says contents old new (asking_lines terminals call.files ++ (line_if begun typing_line ++ text))
     pub formless : status ≡ 1 → HasFormlessPlan call.job → (text : Text) × (length text ≤ longest_message)
         × Says contents old new (asking_lines terminals call.files ++ (text ++ line_if (is_attended terminals) plan_form_line))
-    pub wrong : status ≡ 2 → IsTyped terminals.input call.job ⊎ ((text : Text) × IsValueLine call.files text
+    pub wrong : status ≡ 2 → IsTyped terminals.input call.job ⊎ ((text : Text) × IsValueLine told remaining call.files reader text
         × Says contents old new (asking_lines terminals call.files ++ text))
     pub failed : status ≡ 3 → (begun : Bool) × (early message : Text) × IsWithin begun (types_mnemonics terminals.input call.job)
         × AreSomeLines terminals (is_bare call) call.job early × IsFailureMessage message
@@ -362,9 +370,10 @@ module _ {E : Type 0} (contents : E → Option (List ℕ)) where
   IsSaidUnbegun attended Memory old new ended = (ended ≡ NoMemory) × Says contents old new memory_line
   IsSaidUnbegun attended _ old new ended = OnStatus ended (λ status. (status ≡ 1) × SaysMessage old new)
 
-  -- why the file of this name isn't read is said: its value is too long, or for another reason
-  abbrev pub IsSaidUnread : {R W : Type 0} → Text → Person E → Person E → Ended R W → Type 0
-  IsSaidUnread name old new ended = OnEnd ended (λ status read_to written_to. (status ≡ 2 → Says contents old new (long_line name))
+  -- why the file of this name isn't read is said: what it holds is no value, for one of these causes, or for another reason
+  abbrev pub IsSaidUnread : {R W : Type 0} → (BadValue → Type 0) → Text → Person E → Person E → Ended R W → Type 0
+  IsSaidUnread IsCause name old new ended =
+      OnEnd ended (λ status read_to written_to. (status ≡ 2 → (bad : BadValue) × IsCause bad × Says contents old new (bad_line name bad))
       × ((reason : Text) × Says contents old new (file_line name reason)))
 
   -- what is said for words that give no job

@@ -1,13 +1,17 @@
 -- Values of a command that stand in files, or in the first lines of the input.
-use Rattle.std.specs.Prelude.{◌≡◌, ◌≢◌, ◌⊎◌, ◌<◌, ◌≤◌, ◌+◌, ℕ, List, [], ◌∷◌, All, Option, Some, None, IfSome, bytes_eq, codes, if◌then◌else◌, length, take, unwrap_or}
+use Rattle.std.specs.Prelude.{◌≡◌, ◌≢◌, ◌⊎◌, ◌<◌, ◌≤◌, ◌+◌, ℕ, List, [], ◌∷◌, All, Option, Some, None, IfSome, Result, Ok, bytes_eq, codes, if◌then◌else◌, length, take, unwrap_or}
 use Rattle.std.specs.Borrow.{Bor}
 use Rattle.std.specs.Io.BufRead.{ends_with_byte, strip_last, take_through}
 use Rattle.std.specs.Io.KnownBytes.{Consumes, IsAtEnd, Keeps}
 use Rattle.clap.specs.Words.{Text}
+use Rattle.s39_words.specs.declared.ShareFields.{ShareFields}
+use Rattle.s39_words.specs.Reading.{reading}
 use Rattle.s39_backup.specs.Created.{most_random}
 use Rattle.s39_command.specs.Command.{text_in}
 use Rattle.s39_command.specs.Jobs.{or_empty}
 use Rattle.s39_command.specs.declared.command.Texts.{Texts}
+use Rattle.s39_cli.specs.declared.values.BadValue.{BadValue}
+use Rattle.s39_cli.specs.declared.values.BadValue.TheVariants.{TooLong, Mnemonic}
 use Rattle.s39_cli.specs.declared.values.Until.{Until}
 use Rattle.s39_cli.specs.declared.values.Until.TheVariants.{End, LineEnd}
 
@@ -24,18 +28,28 @@ abbrev pub part : Until → List ℕ → List ℕ
 part End bytes = bytes
 part LineEnd bytes = take_through 10 bytes
 
+-- the text is a mnemonic: it spells a share
+abbrev pub IsMnemonic : Text → Type 0
+IsMnemonic text = (share : ShareFields) × (reading text ≡ Ok share)
+
 -- The value stands in the bytes that are read, without the end of their line. They are that part of the reader's bytes, if it tells
--- them, and none after it is read.
+-- them, and none after it is read. A mnemonic is no value.
 pub record IsValueIn (until : Until) (told left : Option (List ℕ)) (value : List ℕ) : Type 0 where
   pub bytes : List ℕ
   pub read : Consumes told left bytes
   pub all : IfSome told (λ known. bytes ≡ part until known)
   pub value_is : value ≡ without_line_end bytes
   pub fits : length value ≤ longest_value
+  pub no_mnemonic : IsMnemonic value → ⊥
 
--- what stands in that part of the reader's bytes is longer than a value may be, if the reader tells them
-abbrev pub HasLongValue : Until → Option (List ℕ) → Type 0
-HasLongValue until told = IfSome told (λ known. longest_value < length (without_line_end (part until known)))
+-- this is no value, for this cause: it is longer than a value may be, or else it is a mnemonic
+abbrev pub IsBad : BadValue → List ℕ → Type 0
+IsBad TooLong text = longest_value < length text
+IsBad Mnemonic text = (length text ≤ longest_value) × IsMnemonic text
+
+-- what stands in that part of the reader's bytes is no value, for this cause, if the reader tells them
+abbrev pub HoldsBad : BadValue → Until → Option (List ℕ) → Type 0
+HoldsBad bad until told = IfSome told (λ known. IsBad bad (without_line_end (part until known)))
 
 -- the name of the input
 abbrev pub input_name : Text
@@ -85,21 +99,25 @@ abbrev pub LacksValue : {R : Type 0} → Texts → R → R → Type 0
 LacksValue files old new = (((files.secret ≡ None) × (files.passphrase ≡ None)) → ⊥)
     × ((new ≡ old) ⊎ (IsInput files.secret ⊎ IsInput files.passphrase))
 
--- a file of this name, which isn't that of the input, holds more than a value may have
-abbrev pub IsLongFile : Told → Option (Bor Text) → Type 0
-IsLongFile told None = ⊥
-IsLongFile told (Some file) = (file.now ≢ input_name) × HasLongValue (end_in file.now) (told file.now)
+-- a file of this name, which isn't that of the input, holds what is no value, for this cause
+abbrev pub IsBadFile : BadValue → Told → Option (Bor Text) → Type 0
+IsBadFile bad told None = ⊥
+IsBadFile bad told (Some file) = (file.now ≢ input_name) × HoldsBad bad (end_in file.now) (told file.now)
 
 module _ {R : Type 0} (told : Told) (remaining : R → Option (List ℕ)) where
-  -- this is the name of the input, whose first line holds more than a value may have
-  abbrev pub IsLongLine : Option (Bor Text) → R → Type 0
-  IsLongLine file reader = IsInput file × HasLongValue LineEnd (remaining reader)
+  -- this is the name of the input, whose first line holds what is no value, for this cause
+  abbrev pub IsBadLine : BadValue → Option (Bor Text) → R → Type 0
+  IsBadLine bad file reader = IsInput file × HoldsBad bad LineEnd (remaining reader)
 
-  -- one of the values is too long: that of a file, that of the input's first line, or that of the line behind the secret
-  abbrev pub HasLong : Texts → R → Type 0
-  HasLong files old = (IsLongFile told files.secret ⊎ IsLongFile told files.passphrase)
-      ⊎ (IsLongLine files.secret old
-      ⊎ ((between : R) × ((secret : Option (List ℕ)) × TakesValue told remaining files.secret secret old between) × IsLongLine files.passphrase between))
+  -- there is no value, for this cause, in a file, in the input's first line, or in the line behind the secret
+  abbrev pub HasBad : BadValue → Texts → R → Type 0
+  HasBad bad files old = (IsBadFile bad told files.secret ⊎ IsBadFile bad told files.passphrase)
+      ⊎ (IsBadLine bad files.secret old
+      ⊎ ((between : R) × ((secret : Option (List ℕ)) × TakesValue told remaining files.secret secret old between) × IsBadLine bad files.passphrase between))
+
+  -- the same for some cause
+  abbrev pub HasSomeBad : Texts → R → Type 0
+  HasSomeBad files old = (bad : BadValue) × HasBad bad files old
 
 -- ---- random bytes
 

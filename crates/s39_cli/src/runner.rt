@@ -3,6 +3,7 @@ ghost use Rattle.std.specs.Prelude.{◌≡◌, ◌≢◌, ◌≤◌, ◌⊎◌, 
 ghost use Rattle.clap.specs.Words.{Text};
 ghost use Rattle.s39_command.specs.Command.{IsInRange};
 ghost use Rattle.s39_cli.specs.Ending.{DoesDrawn, DoesJob, Ends, EndsUnread, EndsWithoutJob, IsDoneWith, OnEnd, status_in};
+ghost use Rattle.s39_cli.specs.declared.values.BadValue.{BadValue};
 ghost use Rattle.s39_cli.specs.Values.{Told};
 ghost use Rattle.s39_cli.specs.Said.{IsSaid, IsSaidOfJob, IsSaidUnread, IsSaidWithoutJob, OnStatus, Says, is_attended, said_of_values, typed_line};
 ghost use Rattle.s39_cli.specs.Untouched.{IsUntouchedBy, IsUntouchedIfRefused};
@@ -258,18 +259,20 @@ fn without_value<R: Drop, W: Drop, E: Write>(
     output: W,
     person: &mut Person<E>,
 ) -> Ended<R, W>
-    ensures ends { EndsUnread (unread.entry.cause ≡ NoValue.TooLong) input output result }
-    ensures too_long { unread.entry.cause ≡ NoValue.TooLong
+    ensures ends { EndsUnread ((bad : BadValue) × (unread.entry.cause ≡ NoValue.Bad bad))
+        input output result }
+    ensures bad { (bad : BadValue) → unread.entry.cause ≡ NoValue.Bad bad
         → OnEnd result (λ status read_to written_to. status ≡ 2) }
-    ensures failed { unread.entry.cause ≢ NoValue.TooLong
+    ensures failed { ((bad : BadValue) → unread.entry.cause ≢ NoValue.Bad bad)
         → OnEnd result (λ status read_to written_to. status ≡ 3) }
     ensures not_begun { OnStatus result (λ status. 2 ≤ status) }
-    ensures said { IsSaidUnread E.contents unread.entry.name.now person.old person.new result }
+    ensures said { IsSaidUnread E.contents (λ bad. unread.entry.cause ≡ NoValue.Bad bad)
+        unread.entry.name.now person.old person.new result }
 {
     let NoFileValue { name, cause } = unread;
     let status = match cause {
-        NoValue::TooLong => {
-            say_of_file(name, "the value has more than 1024 bytes", person);
+        NoValue::Bad(bad) => {
+            say_of_file(name, bad.reason(), person);
             NO_JOB
         }
         NoValue::Failed(error) => {

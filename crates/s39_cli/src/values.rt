@@ -1,12 +1,13 @@
 //! Values of a command that stand in files or in the first lines of the input.
-ghost use Rattle.std.specs.Prelude.{◌≡◌, ◌≢◌, Err, None, Some, IfErr, IfOk, OnErr, option_map};
+ghost use Rattle.std.specs.Prelude.{◌≡◌, ◌≢◌, Err, None, Some, IfErr, IfOk, IsFalse, IsTrue, OnErr, option_map};
 ghost use Rattle.s39_command.specs.Command.{text_in};
 ghost use Rattle.s39_cli.specs.Said.{IsNamedIn};
-ghost use Rattle.s39_cli.specs.Values.{HasLong, HasLongValue, IsInFile, IsInput, IsLongFile, IsPart, IsValueIn, IsValueOf};
+ghost use Rattle.s39_cli.specs.Values.{HasBad, HoldsBad, IsBadFile, IsInFile, IsInput, IsMnemonic, IsPart, IsValueIn, IsValueOf};
 ghost use Rattle.s39_cli.specs.Values.{LacksValue, TakesByte, TakesValue, TakesValues, end_in, text_of, without_line_end};
 
 use arrayvec::ArrayVec;
 use s39_command::Texts;
+use s39_words::parse;
 use std::io::{ErrorKind, Read};
 use std::rt::Files;
 use std::{fs, io};
@@ -35,11 +36,34 @@ enum Until {
 /// A value that was read.
 type Value = ArrayVec<u8, ROOM>;
 
+/// Why a text that was read is no value.
+#[derive(Clone, Copy)]
+pub(crate) enum BadValue {
+    /// It has more than 1,024 bytes.
+    TooLong,
+    /// It is a mnemonic.
+    Mnemonic,
+}
+
+impl BadValue {
+    ghost use Rattle.s39_cli.specs.Said.{reason_of};
+
+    /// What is said of it.
+    pub(crate) fn reason(self) -> &'static str
+        ensures { result.now ≡ reason_of self }
+    {
+        match self {
+            BadValue::TooLong => "the value has more than 1024 bytes",
+            BadValue::Mnemonic => "this is a mnemonic, and neither a secret nor a passphrase",
+        }
+    }
+}
+
 /// Why a value isn't read.
 #[derive(Drop)]
 pub(crate) enum NoValue {
-    /// It has more than 1,024 bytes.
-    TooLong,
+    /// What was read is no value.
+    Bad(BadValue),
     /// An open or a read failed.
     Failed(io::Error),
 }
@@ -102,15 +126,31 @@ fn without_line_end(bytes: Value) -> Value
     bytes
 }
 
+/// Whether the text is a mnemonic.
+#[tactic(auto, using(crate::proofs::ReadParts::refused_is_no_mnemonic))]
+fn is_mnemonic(text: &[u8]) -> bool
+    ensures mnemonic { IsTrue result → IsMnemonic text.now }
+    ensures other { IsFalse result → IsMnemonic text.now → ⊥ }
+{
+    match parse(text) {
+        Ok(_) => true,
+        Err(_) => false,
+    }
+}
+
 /// The value that stands in the part.
 fn value_in<R: Read>(input: &mut R, until: Until) -> Result<Value, NoValue>
     ensures value { IfOk result (λ value. IsValueIn until (R.remaining input.old)
         (R.remaining input.new) value.items) }
-    ensures long { result ≡ Err NoValue.TooLong → HasLongValue until (R.remaining input.old) }
+    ensures bad { (bad : BadValue) → result ≡ Err (NoValue.Bad bad)
+        → HoldsBad bad until (R.remaining input.old) }
 {
     let value = without_line_end(part(input, until)?);
     if value.len() > MOST {
-        return Err(NoValue::TooLong);
+        return Err(NoValue::Bad(BadValue::TooLong));
+    }
+    if is_mnemonic(value.as_slice()) {
+        return Err(NoValue::Bad(BadValue::Mnemonic));
     }
     Ok(value)
 }
@@ -176,8 +216,8 @@ fn end_in(name: &str) -> Until
 /// The value in the file of this name.
 fn value_of_file<S: Shelf>(shelf: &S, name: &str) -> Result<Value, NoValue>
     ensures value { IfOk result (λ value. IsValueOf (S.told shelf.now) name.now value.items) }
-    ensures long { result ≡ Err NoValue.TooLong
-        → HasLongValue (end_in name.now) (S.told shelf.now name.now) }
+    ensures bad { (bad : BadValue) → result ≡ Err (NoValue.Bad bad)
+        → HoldsBad bad (end_in name.now) (S.told shelf.now name.now) }
 {
     let mut file = shelf.open(name)?;
     value_in(&mut file, end_in(name))
@@ -189,8 +229,8 @@ fn in_file<'a, S: Shelf>(shelf: &S, name: Option<&'a str>) -> Result<Option<Valu
         (option_map (λ held. held.items) value)) }
     ensures failed { OnErr result (name.entry ≢ None) }
     ensures named { IfErr result (λ unread. text_in name.entry ≡ Some unread.name.now) }
-    ensures long { IfErr result (λ unread. unread.cause ≡ NoValue.TooLong
-        → IsLongFile (S.told shelf.now) name.entry) }
+    ensures bad { IfErr result (λ unread. (bad : BadValue) → unread.cause ≡ NoValue.Bad bad
+        → IsBadFile bad (S.told shelf.now) name.entry) }
 {
     let name = match name {
         Some(name) if name != INPUT => name,
@@ -214,8 +254,8 @@ fn in_line<'a, S: Shelf, R: Read>(
         (option_map (λ held. held.items) value) input.old input.new) }
     ensures failed { OnErr result (IsInput name.entry) }
     ensures named { IfErr result (λ unread. text_in name.entry ≡ Some unread.name.now) }
-    ensures long { IfErr result (λ unread. unread.cause ≡ NoValue.TooLong
-        → HasLongValue Until.LineEnd (R.remaining input.old)) }
+    ensures bad { IfErr result (λ unread. (bad : BadValue) → unread.cause ≡ NoValue.Bad bad
+        → HoldsBad bad Until.LineEnd (R.remaining input.old)) }
 {
     let name = match name {
         Some(name) if name == INPUT => name,
@@ -264,8 +304,8 @@ impl Values {
             (option_map (λ held. held.items) values.passphrase) input.old input.new) }
         ensures failed { OnErr result (LacksValue files.entry input.old input.new) }
         ensures named { IfErr result (λ unread. IsNamedIn files.entry unread.name.now) }
-        ensures long { IfErr result (λ unread. unread.cause ≡ NoValue.TooLong
-            → HasLong (S.told shelf.now) R.remaining files.entry input.old) }
+        ensures bad { IfErr result (λ unread. (bad : BadValue) → unread.cause ≡ NoValue.Bad bad
+            → HasBad (S.told shelf.now) R.remaining bad files.entry input.old) }
     {
         let secret = in_file(shelf, files.secret)?;
         let passphrase = in_file(shelf, files.passphrase)?;

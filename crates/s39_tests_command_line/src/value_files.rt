@@ -5,7 +5,9 @@ use crate::expect::equal;
 use s39_cli::{Person, program};
 use s39_command::{BadValues, Call, Job, NoJob, Texts, read_words};
 use s39_fixtures::shelves::Halted;
-use s39_fixtures::{NO_TERMINAL, ONE_OF_ONE, ONE_OF_ONE_SECRET, expect_over, run_on};
+use s39_fixtures::{
+    NO_TERMINAL, ONE_OF_ONE, ONE_OF_ONE_BAD_CHECKSUM, ONE_OF_ONE_SECRET, expect_over, lines, run_on,
+};
 use s39_input::SecretForm;
 use std::alloc::Global;
 use std::io::ErrorKind;
@@ -296,7 +298,8 @@ fn reads_a_passphrase_from_a_file(rt: HostRuntime) -> Result<(), Fail> {
     let of_1024 = "8ffb749d1b4a83fc415e5394cd4a0ac6\n";
     let unprintable = "shamir: 41 passphrase byte 7 not printable\n";
     let too_long = "shamir: file: the value has more than 1024 bytes\n";
-    let cases: [(&[u8], (&str, &str, u8)); 11] = [
+    let mnemonic = "shamir: file: this is a mnemonic, and neither a secret nor a passphrase\n";
+    let cases: [(&[u8], (&str, &str, u8)); 12] = [
         (b"TREZOR", (ONE_OF_ONE_SECRET, "", 0)),
         (b"TREZOR\n", (ONE_OF_ONE_SECRET, "", 0)),
         (b"TREZOR\r\n", (ONE_OF_ONE_SECRET, "", 0)),
@@ -308,11 +311,56 @@ fn reads_a_passphrase_from_a_file(rt: HostRuntime) -> Result<(), Fail> {
         (&[b'x'; 1025], ("", too_long, 2)),
         (&[b'\n'; 1026], ("", too_long, 2)),
         (&[b'x'; 4000], ("", too_long, 2)),
+        (ONE_OF_ONE.as_bytes(), ("", mnemonic, 2)),
     ];
     let words = ["shamir", "recover", "--passphrase-file=file"];
     for (bytes, wanted) in cases {
         let files: [(&str, &[u8]); 2] = [("other", b"SATOSHI"), ("file", bytes)];
         expect_over(&files, &words, ONE_OF_ONE.as_bytes(), rt.alloc(), wanted)?;
+    }
+    Ok(())
+}
+
+// The first line of mnemonics isn't taken for the passphrase, nor for the secret of `create`. One that isn't sound is.
+#[test]
+fn refuses_a_mnemonic_as_a_value(rt: HostRuntime) -> Result<(), Fail> {
+    let alloc = rt.alloc();
+    let mnemonic = "shamir: -: this is a mnemonic, and neither a secret nor a passphrase\n";
+    let two = lines(alloc, &[ONE_OF_ONE, ONE_OF_ONE])?;
+    let (none, unhexadecimal) = (
+        "shamir: 29 no shares\n",
+        "shamir: master secret isn't hexadecimal\n",
+    );
+    let secret = "--master-secret-file=-";
+    let cases: [(&[&str], &str, (&str, &str, u8)); 5] = [
+        (
+            &["shamir", "recover", "--passphrase-file=-"],
+            &two,
+            ("", mnemonic, 2),
+        ),
+        (
+            &["shamir", "drill", "--passphrase-file=-"],
+            &two,
+            ("", mnemonic, 2),
+        ),
+        (
+            &["shamir", "create", "x", secret],
+            ONE_OF_ONE,
+            ("", mnemonic, 2),
+        ),
+        (
+            &["shamir", "create", "x", secret],
+            ONE_OF_ONE_BAD_CHECKSUM,
+            ("", unhexadecimal, 2),
+        ),
+        (
+            &["shamir", "recover", "--passphrase-file=-"],
+            ONE_OF_ONE_BAD_CHECKSUM,
+            ("", none, 1),
+        ),
+    ];
+    for (words, input, wanted) in cases {
+        expect_over(&[], words, input.as_bytes(), alloc, wanted)?;
     }
     Ok(())
 }

@@ -21,4 +21,5 @@ pub returns-in-Err-Failed-clause-said : goal.returns-in-Err-Failed-clause-said
 returns-in-Err-Failed-clause-said g c =
     let person = c.args.person.now in
     said_undrawn g.E.Write.contents g.R.Read.remaining person.terminals person.is_bare c.args.job c.args.input person c.without_value.new.person
-    c.in-Some.name.now c.without_value.result (c.without_value.ensures.failed (λ same. cc)) c.without_value.ensures.said c.without_value.ensures.not_begun
+    _ c.in-Some.name.now c.without_value.result (c.without_value.ensures.failed (λ bad same. cc)) c.without_value.ensures.said
+    c.without_value.ensures.not_begun

@@ -1,5 +1,6 @@
 use Rattle.std.proofs.Common.{◌≡◌, ◌∙◌, ℕ, Bor, List, ap, map, option_map}
-use Rattle.s39_cli.specs.declared.values.NoValue.TheVariants.{TooLong}
+use Rattle.s39_cli.specs.declared.values.BadValue.{BadValue}
+use Rattle.s39_cli.specs.declared.values.NoValue.TheVariants.{Bad}
 use Rattle.s39_cli.proofs.Ends.{ends_by_job, ends_typed, ends_unread, ends_without_job}
 use Rattle.s39_cli.proofs.Untouched.{job_untouched, jobless_untouched, typed_untouched, unread_untouched}
 use Rattle.s39_cli.proofs.SaidOfWords.{said_of_job, said_typed, said_unread, said_without_job}
@@ -25,8 +26,8 @@ returns-in-Err-read-clause-ends g c =
     ends_unread (g.S.Shelf.told c.args.shelf.now) g.R.Read.remaining g.W.Write.contents c.args.person.now.terminals.input words c.args.input c.args.output
     c.in-Ok.call c.in-Ok.ensures.call
     c.in-Ok.ensures.taken c.in-Ok.ensures.faultless c.read.new.input c.without_value.result
-    (c.in-Err-read.unread.cause ≡ TooLong) (c.types_random.ensures.untyped c.if-types_random.false) c.in-Err-read.ensures.failed
-    c.in-Err-read.ensures.long c.without_value.ensures.ends
+    ((bad : BadValue) × (c.in-Err-read.unread.cause ≡ Bad bad)) (c.types_random.ensures.untyped c.if-types_random.false) c.in-Err-read.ensures.failed
+    (λ caused. (caused.0, c.in-Err-read.ensures.bad caused.0 caused.1)) c.without_value.ensures.ends
 
 pub returns-clause-ends : goal.returns-clause-ends
 returns-clause-ends g c =
@@ -49,7 +50,7 @@ returns-then-types_random-clause-untouched g c =
 
 pub returns-in-Err-read-clause-untouched : goal.returns-in-Err-read-clause-untouched
 returns-in-Err-read-clause-untouched g c =
-    unread_untouched c.args.output (c.in-Err-read.unread.cause ≡ TooLong) c.read.new.input (map (λ (word : Bor (List ℕ)). word.now) c.args.words.now)
+    unread_untouched c.args.output ((bad : BadValue) × (c.in-Err-read.unread.cause ≡ Bad bad)) c.read.new.input (map (λ (word : Bor (List ℕ)). word.now) c.args.words.now)
     c.without_value.result c.without_value.ensures.ends
 
 pub returns-clause-untouched : goal.returns-clause-untouched
@@ -78,8 +79,8 @@ returns-in-Err-read-clause-said g c =
     said_unread (g.S.Shelf.told c.args.shelf.now) g.R.Read.remaining g.E.Write.contents c.args.person.now.terminals words c.args.input
     c.args.person.now c.without_value.new.person c.in-Ok.call c.in-Ok.ensures.call
     c.in-Ok.ensures.taken c.in-Ok.ensures.faultless (c.types_random.ensures.untyped c.if-types_random.false) c.is_bare.result c.ask_for.new.self c.keep.new.self
-    c.ask_for.ensures.said c.keep.ensures c.in-Err-read.unread.name.now c.without_value.result c.without_value.ensures.not_begun
-    c.in-Err-read.ensures.named c.without_value.ensures.said
+    c.ask_for.ensures.said c.keep.ensures (λ (bad : BadValue). c.in-Err-read.unread.cause ≡ Bad bad) c.in-Err-read.ensures.bad c.in-Err-read.unread.name.now c.without_value.result
+    c.without_value.ensures.not_begun c.in-Err-read.ensures.named c.without_value.ensures.said
 
 pub returns-clause-said : goal.returns-clause-said
 returns-clause-said g c =
