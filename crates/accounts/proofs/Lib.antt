@@ -1,0 +1,5 @@
+pub mod Begun
+pub mod HexDigits
+pub mod Fronts
+pub mod ReadBack
+pub mod Forms

@@ -1,0 +1,4 @@
+pub mod Paths
+pub mod Accounts
+pub mod Shown
+pub mod Texts
