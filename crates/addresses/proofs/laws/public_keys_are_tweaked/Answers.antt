@@ -1,4 +1,4 @@
-use Rattle.std.proofs.Common.{◌≡◌, ℕ, ◌<◌, ◌^◌, List, Option, Some, None, cond, ltb, ap, ◌∙◌, arith, lit<}
+use Rattle.std.proofs.Common.{ℕ, ◌<◌, ◌^◌, List, Option, None, cond, ltb, ap, ◌∙◌, arith, lit<}
 use Rattle.std.specs.Int.{bytes_high_first}
 use Rattle.std.specs.Option.{option_and_then}
 use Rattle.curve_field.specs.Field.{prime}
@@ -8,7 +8,6 @@ use Rattle.curve_points.specs.declared.point.Affine.{Affine}
 use Rattle.curve_points.specs.declared.point.Point.TheVariants.{Finite}
 use Rattle.curve_points.specs.Points.{sum_of}
 use Rattle.curve_points.specs.Multiples.{public_point}
-use Rattle.curve_points.specs.OnCurve.{IsOnCurve}
 use Rattle.curve_points.specs.Lifted.{lift_x}
 use Rattle.curve_points.proofs.Roots.{lifted}
 use Rattle.addresses.specs.Taproot.{tweak, x_only, output_key}
