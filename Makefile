@@ -29,7 +29,9 @@
 #                    processors with emulators, and for Windows with wine
 #   make check-js    checks the JavaScript package alone: its types, and its tests with both forms of the library
 #   make check-secrets   looks with valgrind for branches and addresses of the library that depend on secrets, and for secrets that
-#                    its calls leave on the stack, and that the program leaves in its memory
+#                    its calls leave on the stack, and that the program leaves in its memory; and for both where keys are derived
+#   make check-keys  compares keys, texts and addresses of generated secrets with a plain reading of the standards in Python, and with
+#                    Electrum
 #   make faults      makes each allocation, open, read and write of the program fail in turn
 #   make compare     compares the program, and the repair of the library, with a plain reading of the standard in Python, on
 #                    generated cases; and the page and shamir-papers with the program
@@ -91,7 +93,7 @@ TELL_OF_KIT = @command -v $(RT) > /dev/null || { echo "make: $(RT) of the kit is
 	found=$$($(RT) version 2> /dev/null) || found="no version"; case "$$found" in *" logic $(LOGIC)") ;; \
 	*) echo "make: 'rt version' says '$$found', and README.md names a kit with logic $(LOGIC)" >&2 ;; esac
 # These crates are programs for measurements and checks.
-TOOLS = s39_bench s39_allocations s39_timing
+TOOLS = s39_bench s39_allocations s39_timing keys_shown
 # The crate of the program is the only other one with a main.
 PROGRAM = $(filter-out $(TOOLS),$(patsubst crates/%/src/main.rt,%,$(wildcard crates/*/src/main.rt)))
 # crates.txt lists all crates, and after each the crates and libraries that it uses.
@@ -111,6 +113,7 @@ CALLS = sed -n 's/^\(shamir_answer\|void\) \(shamir_[a-z_]*\).*/\2/p' include/sh
 SOURCES = $(shell find crates -path '*/out' -prune -o -type f -print) crates.txt
 
 TIMING = crates/s39_timing/out/timing
+KEYS = crates/keys_shown/out/keys
 
 .PHONY: all lib wasm portable page test quick edits twins check check-library check-js check-page check-papers check-packages check-secrets bench faults compare try install install-bin install-lib install-page install-papers uninstall wheel deb release dist clean
 
@@ -173,7 +176,7 @@ SECRETS_CHECKS = check-leftovers check-timing
 PAGE_PARTS = privacy change refusals tasks journey entry looks astray hasty long agreement ways
 PAGE_CHECKS = $(foreach part,$(PAGE_PARTS),check-page-firefox-$(part) check-page-chromium-$(part)) check-page-sources check-page-webkit
 CHECKS = $(LIBRARY_CHECKS) $(PACKAGES_CHECKS) check-allocations check-terminal check-recipes check-completions check-values check-dist check-program check-node check-without-kit \
-	check-examples check-texts check-figures check-manual check-version
+	check-examples check-texts check-figures check-manual check-version check-keys
 LONGEST = check-page-firefox-privacy check-page-chromium-privacy check-header check-rust check-program check-leftovers check-papers check-vectors $(PACKAGES_CHECKS)
 PART = @$(PYTHON) tools/part $@
 # Without wasm-opt there is no page, and the checks say what they leave out.
@@ -183,10 +186,10 @@ MODULES = $(if $(WASM_OPT),shamir32.wasm program.wasm)
 
 .PHONY: checks check-secrets check-portable check-alone $(CHECKS) $(SECRETS_CHECKS) $(PAGE_CHECKS)
 
-checks: shamir libshamir.so $(SONAME) $(TIMING) shamir.wasm $(PAGE) $(MODULES)
+checks: shamir libshamir.so $(SONAME) $(TIMING) $(KEYS) shamir.wasm $(PAGE) $(MODULES)
 	@$(MAKE) $(SIDE_BY_SIDE) $(LONGEST) $(PAGE_CHECKS) $(SECRETS_CHECKS) check-papers $(CHECKS)
 
-check: shamir libshamir.so $(SONAME) shamir.wasm $(PAGE) $(MODULES)
+check: shamir libshamir.so $(SONAME) $(KEYS) shamir.wasm $(PAGE) $(MODULES)
 	@$(MAKE) $(SIDE_BY_SIDE) $(CHECKS)
 
 check-library: shamir libshamir.so $(SONAME) shamir.wasm $(PAGE)
@@ -195,7 +198,7 @@ check-library: shamir libshamir.so $(SONAME) shamir.wasm $(PAGE)
 check-packages: shamir libshamir.so $(SONAME) $(PAGE)
 	@$(MAKE) $(SIDE_BY_SIDE) $(PACKAGES_CHECKS)
 
-check-secrets: shamir libshamir.a $(TIMING)
+check-secrets: shamir libshamir.a $(TIMING) $(KEYS)
 	@$(MAKE) $(SIDE_BY_SIDE) $(SECRETS_CHECKS)
 
 check-page: shamir $(PAGE)
@@ -205,6 +208,7 @@ check-page: shamir $(PAGE)
 ifneq ($(filter check%,$(MAKECMDGOALS)),)
 libshamir.a: | shamir
 $(TIMING): | libshamir.so $(if $(filter checks,$(MAKECMDGOALS)),shamir.wasm)
+$(KEYS): | $(if $(filter-out check-keys,$(MAKECMDGOALS)),libshamir.so) $(if $(filter checks check-secrets check-timing,$(MAKECMDGOALS)),$(TIMING))
 endif
 
 check-version: shamir
@@ -288,10 +292,13 @@ check-installed: shamir libshamir.so $(PAGE)
 check-debs: shamir libshamir.so $(PAGE)
 	$(PART) tools/debs
 
-check-timing: libshamir.a $(TIMING)
+check-timing: libshamir.a $(TIMING) $(KEYS)
 	$(PART) $(PYTHON) tools/timing
 
-check-leftovers: shamir libshamir.a
+check-keys: $(KEYS)
+	$(PART) tools/keys
+
+check-leftovers: shamir libshamir.a $(KEYS)
 	$(PART) $(PYTHON) tools/leftovers
 
 $(filter-out %-sources %-webkit,$(PAGE_CHECKS)): check-page-%: shamir $(PAGE)
@@ -311,11 +318,16 @@ $(TIMING): $(SOURCES)
 	cd crates/s39_timing && $(RT) run --cpu=$(CPU) < stdin > /dev/null
 	cp crates/s39_timing/out/s39_timing $@
 
+# Proves and builds the program that derives keys of wallets, for several checks.
+$(KEYS): $(SOURCES)
+	cd crates/keys_shown && $(RT) run --cpu=$(CPU) -- $$(cat args) < stdin > /dev/null
+	cp crates/keys_shown/out/keys_shown $@
+
 faults: shamir
 	cd crates/s39_allocations && $(RT) run < stdin > /dev/null
 	@tools/faults
 
-compare: shamir libshamir.so shamir32.wasm shamir.html
+compare: shamir libshamir.so $(KEYS) shamir32.wasm shamir.html
 	@tools/compare
 	@tools/library --kinds repair --cases 10000
 	@tools/javascript --cases 10000

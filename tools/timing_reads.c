@@ -1,5 +1,5 @@
-/* tools/timing preloads this library into crates/s39_timing. It marks what the program reads as undefined, so that memcheck
-   reports each branch and each address that depends on it. */
+/* tools/timing preloads this library into programs of crates/. It marks what such a program reads as undefined, so that memcheck reports each
+   branch and each address that depends on it. */
 #define _GNU_SOURCE
 #include <sys/syscall.h>
 #include <unistd.h>

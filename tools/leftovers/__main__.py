@@ -1,7 +1,7 @@
 """Checks that each call of the library leaves nothing secret on the stack below its caller, and that the program leaves nothing
 secret in its memory.
 
-    python3 tools/leftovers [--archive PATH] [--program PATH]
+    python3 tools/leftovers [--archive PATH] [--program PATH] [--keys PATH]
     python3 tools/leftovers --plain-c PATH      checks only the program as plain C (program.c of dist/c), compiled for x86-64
 
 Of the library, it makes calls by tools/check_portable/driver.c, which gives what then lies below the frame of the caller. There, the
@@ -19,6 +19,9 @@ is about to end, and searches all memory that it can write for the same as above
 signal must end the native program before it has read anything secret or written anything, and the program as plain C must need no more
 than each program is given. Blocks that this program frees are searched too, and mustn't have its constants, as it clears them whole. For all
 this, the tool needs the right to trace a program, and for a lack of memory a C compiler, as tools/faults.c refuses the allocations.
+
+In the same way, it looks at the end of crates/keys_shown for master secrets, private keys and chain codes. This program derives keys and
+clears its stack, as a caller of the crates of keys has to.
 
 It exits with status 1 if something is found, if a call or a run answers something else than it must, or if a call can reach further
 than it clears.
@@ -40,6 +43,7 @@ import cases  # noqa: E402
 import ends  # noqa: E402
 import exits  # noqa: E402
 import frames  # noqa: E402
+import keys  # noqa: E402
 from left_out import is_here, left_out  # noqa: E402
 from tool import faults_library  # noqa: E402
 
@@ -75,16 +79,27 @@ def of_runs(program: pathlib.Path, is_plain_c: bool) -> List[str]:
     return told
 
 
+def of_keys(program: pathlib.Path) -> List[str]:
+    """Checks the runs of the program that derives keys. Returns what is wrong."""
+    if not exits.can_trace():
+        return []
+    told, count, deepest = keys.all_leftovers(program)
+    if not told:
+        print(f"at the end of each of {count} runs that derive keys, no secret and no private key is in memory; below {deepest} bytes, all of the stack is 0")
+    return told
+
+
 def main() -> None:
     words = argparse.ArgumentParser()
     words.add_argument("--archive", type=pathlib.Path, default=ROOT / "libshamir.a")
     words.add_argument("--program", type=pathlib.Path, default=ROOT / "shamir")
     words.add_argument("--plain-c", type=pathlib.Path)
+    words.add_argument("--keys", type=pathlib.Path, default=ROOT / "crates" / "keys_shown" / "out" / "keys")
     given = words.parse_args()
     if platform.machine() != "x86_64":
         left_out("this isn't x86-64, so nothing looks for what the library and the program leave in memory")
         return
-    told = of_runs(given.plain_c, True) if given.plain_c else of_calls(given.archive) + of_runs(given.program, False)
+    told = of_runs(given.plain_c, True) if given.plain_c else of_calls(given.archive) + of_runs(given.program, False) + of_keys(given.keys)
     if told:
         more = [f"and {len(told) - SHOWN} more"] if len(told) > SHOWN else []
         sys.exit("tools/leftovers: something is left in memory\n  " + "\n  ".join(told[:SHOWN] + more))

@@ -3,7 +3,7 @@ import importlib
 import random
 import re
 from dataclasses import dataclass, replace
-from typing import Any, Dict, Iterator, List, Optional, Tuple
+from typing import Any, Dict, Iterable, Iterator, List, Optional, Tuple
 
 plain: Any = importlib.import_module("plain")
 
@@ -100,28 +100,34 @@ def runs(mnemonic: bytes) -> Iterator[bytes]:
             yield b"".join(plain.INDEX[word].to_bytes(size, "little") for word in words[at : at + max(RUN, WINDOW // size)])
 
 
+def windows(form: bytes) -> Iterator[bytes]:
+    """Yields any WINDOW bytes in a row, or all if there are no more."""
+    for at in range(max(1, len(form) - WINDOW + 1)):
+        yield form[at : at + WINDOW]
+
+
+def needles_of(backup: Backup) -> Iterator[Tuple[bytes, str]]:
+    """Yields what a search looks for of a backup, with its name."""
+    for name, value in values(backup):
+        for form in forms(value):
+            for window in windows(form):
+                yield window, name
+    for mnemonic in backup.mnemonics:
+        for run in runs(mnemonic):
+            yield run, "words of a mnemonic"
+    if backup.anew:
+        yield from needles_of(backup.anew)
+
+
 class Needles:
     """What a search looks for: by its first bytes, each whole text and its name."""
 
-    def __init__(self, backup: Backup) -> None:
+    def __init__(self, needles: Iterable[Tuple[bytes, str]]) -> None:
         self._found: Dict[bytes, List[Tuple[bytes, str]]] = {}
-        self._add_backup(backup)
-        if backup.anew:
-            self._add_backup(backup.anew)
-
-    def _add_backup(self, backup: Backup) -> None:
-        for name, value in values(backup):
-            for form in forms(value):
-                for at in range(max(1, len(form) - WINDOW + 1)):
-                    self._add(form[at : at + WINDOW], name)
-        for mnemonic in backup.mnemonics:
-            for run in runs(mnemonic):
-                self._add(run, "words of a mnemonic")
-
-    def _add(self, text: bytes, name: str) -> None:
-        same = self._found.setdefault(text[:WINDOW], [])
-        if (text, name) not in same:
-            same.append((text, name))
+        for text, name in needles:
+            same = self._found.setdefault(text[:WINDOW], [])
+            if (text, name) not in same:
+                same.append((text, name))
 
     def within(self, memory: bytes) -> Iterator[Tuple[int, str]]:
         """Yields where something secret begins in memory, and what it is."""

@@ -44,7 +44,7 @@ def all_leftovers(compiler: List[str], library: str, lengths: List[int], most: i
         for backup, made in cases.all_cases():
             if len(backup.secret) not in lengths:
                 continue
-            needles = backups.Needles(backup)
+            needles = backups.Needles(backups.needles_of(backup))
             for found, lowest in pool.map(lambda case: leftovers(program, case, needles, most, last), made):
                 told += [f"{len(backup.secret)} bytes: {it}" for it in found]
                 count, deepest = count + 1, max(deepest, lowest)

@@ -112,7 +112,7 @@ def all_leftovers(program: pathlib.Path, shim: str, is_plain_c: bool) -> Tuple[L
     told: List[str] = []
     count = deepest = 0
     for backup, runs in commands.all_runs(is_plain_c):
-        search = Search(str(program.resolve()), backups.Needles(backup), is_plain_c)
+        search = Search(str(program.resolve()), backups.Needles(backups.needles_of(backup)), is_plain_c)
         if is_plain_c:
             runs = [with_variables(run, **KEPT) for run in runs]
         if shim:

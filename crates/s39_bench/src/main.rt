@@ -4,12 +4,15 @@
 //! `10000 * 2^E` iterations. `split N` splits a secret of 32 bytes N times at threshold 8 of 16, and `combine N` combines
 //! eight of its shares N times; both print how often it succeeded. `next G N` takes N steps through the quorums of a
 //! set of G groups of `8of16`, all of which are needed, and prints how many looks they took. `repair N LINE` repairs a
-//! line N times, and prints how often it found a mnemonic or one wrong word. With no argument it does `kdf 0`.
+//! line N times, and prints how often it found a mnemonic or one wrong word. `public N` multiplies the generator of secp256k1 by
+//! N secret scalars, `address N` derives N keys of a branch of an account with their addresses, and `first N` derives the first
+//! address of N master secrets; all three print how many points or addresses there are. With no argument it does `kdf 0`.
 #![tactic(auto)]
 
 ghost use Rattle.std.specs.Prelude.{◌≡◌, All};
 ghost use Rattle.arrayvec.specs.ArrayVec.{array_vec_len};
 
+mod keys;
 mod steps;
 
 use s39_kdf::{Bytes, MAX_EXPONENT, Params, check_secret, encrypt};
@@ -141,6 +144,18 @@ fn main(rt: HostRuntime) -> io::Result<()> {
             let groups = u8::try_from(number).unwrap_or(u8::MAX);
             let looks = steps::looks_of_steps(groups, number_of(words.next())).unwrap_or(0);
             println!(rt; "{looks}")
+        }
+        Some(work) if work.as_str() == "public" => {
+            let points = keys::public_often(number);
+            println!(rt; "{points}")
+        }
+        Some(work) if work.as_str() == "address" => {
+            let count = keys::address_often(number);
+            println!(rt; "{count}")
+        }
+        Some(work) if work.as_str() == "first" => {
+            let count = keys::first_often(number);
+            println!(rt; "{count}")
         }
         _ => derive_keys(&rt, u8::try_from(number).unwrap_or(u8::MAX)),
     }
