@@ -194,8 +194,8 @@ typedef enum shamir_code {
 /*
  * The answer of a call.
  *
- * line is the number of the refused line, counted from 1, for the codes 11 to 28 and 71 of calls that take lines. Otherwise
- * it is 0. Only shamir_drill sets the field "mismatches"; in answers of other calls this field is 0. first and second are the
+ * line is the number of the refused line, counted from 1, for the codes 11 to 15, 21 to 28 and 71 of calls that take lines.
+ * Otherwise it is 0. Only shamir_drill sets the field "mismatches"; in answers of other calls this field is 0. first and second are the
  * details of a refusal. After success, first is a result of shamir_random_needed, shamir_create, shamir_drill, shamir_status,
  * shamir_judge, shamir_quorums, shamir_resplit, shamir_create_from_encrypted and shamir_repair, and second of shamir_drill,
  * shamir_status and shamir_judge. Otherwise they are 0.
@@ -363,7 +363,7 @@ SHAMIR_INLINE SHAMIR_STRUCT(1) shamir_answer shamir_create_with(const shamir_cre
  * short, the call refuses with 1 only after the iterations.
  *
  * The call refuses with the first of these that applies: 44 (expected is neither empty nor such digits), 41, the code of the
- * first refused line (11 to 28, 71), 29, 30, 3, 51, 52, 1.
+ * first refused line (11 to 15, 21 to 28, 71), 29, 30, 3, 51, 52, 1.
  *
  *     uint8_t secret[SHAMIR_SECRET_BYTES_MAX];
  *     shamir_answer answer = shamir_recover(
@@ -386,7 +386,7 @@ shamir_answer shamir_recover(
  * the secret. If you only want the parameters, let encrypted_bytes be 0: the call then refuses with 1, and *parameters has them. If
  * the backup has no passphrase, the encrypted secret with its parameters is as secret as the secret itself.
  *
- * The call refuses with the first of these that applies: the code of the first refused line (11 to 28, 71), 29, 30, 51, 1.
+ * The call refuses with the first of these that applies: the code of the first refused line (11 to 15, 21 to 28, 71), 29, 30, 51, 1.
  *
  *     shamir_parameters parameters;
  *     uint8_t encrypted[SHAMIR_SECRET_BYTES_MAX];
@@ -486,7 +486,7 @@ shamir_answer shamir_decrypt_round(
  * call refuses with 1 only after the iterations.
  *
  * The call refuses with the first of these that applies: 2 (a limit of 0, or a form above 2), 61, 44 (if the form is
- * SHAMIR_FORM_EXPECTED), 41, the code of the first refused line (11 to 28, 71), 29, 30, 3, 62, 1.
+ * SHAMIR_FORM_EXPECTED), 41, the code of the first refused line (11 to 15, 21 to 28, 71), 29, 30, 3, 62, 1.
  *
  *     shamir_answer answer = shamir_drill(
  *         lines, lines_bytes, "TREZOR", 6, SHAMIR_EXPONENT_MAX, after, after_bytes, 1000, SHAMIR_FORM_FINGERPRINTS, NULL, 0, text,
@@ -512,7 +512,7 @@ shamir_answer shamir_drill(
  * is C, and second is R. The mnemonics have a quorum if and only if first is at least second. If they have none, the code is
  * still SHAMIR_DONE.
  *
- * The call refuses with the first of these that applies: the code of the first refused line (11 to 28, 71), 29, 1.
+ * The call refuses with the first of these that applies: the code of the first refused line (11 to 15, 21 to 28, 71), 29, 1.
  *
  *     char text[SHAMIR_STATUS_BYTES_MAX];
  *     shamir_answer answer = shamir_status(lines, lines_bytes, text, sizeof text);
@@ -611,7 +611,7 @@ shamir_answer shamir_judge(
  * is how many quorums shamir_drill lists if its cursor is empty and no limit or room stops it, or UINT64_MAX if there are more. If
  * the mnemonics have no quorum, first is 0, and the code is still SHAMIR_DONE. The call writes nothing.
  *
- * The call refuses with the first of these that applies: the code of the first refused line (11 to 28, 71), 29.
+ * The call refuses with the first of these that applies: the code of the first refused line (11 to 15, 21 to 28, 71), 29.
  *
  *     shamir_answer answer = shamir_quorums(lines, lines_bytes);
  *     uint64_t quorums = answer.first;
@@ -643,7 +643,7 @@ shamir_answer shamir_quorums(const char *lines, size_t lines_bytes);
  *
  * If mnemonics is too short, the call refuses with 1, and first is the length of all wanted mnemonics.
  *
- * The call refuses with the first of these that applies: 31 to 34, 63, 64, the code of the first refused line (11 to 28, 71),
+ * The call refuses with the first of these that applies: 31 to 34, 63, 64, the code of the first refused line (11 to 15, 21 to 28, 71),
  * 29, 65, then for each name in turn 66 or 51, then 1.
  *
  *     shamir_answer answer = shamir_reissue("2of3", 4, "0.1", 3, lines, lines_bytes, mnemonics, sizeof mnemonics);
@@ -679,7 +679,7 @@ shamir_answer shamir_reissue(
  * As shamir_recover does, the call uses the first quorum, and doesn't try further mnemonics. The old mnemonics go on giving the
  * secret until they are destroyed. If somebody may have a quorum of them, use a new secret too.
  *
- * The call refuses with the first of these that applies: 31 to 34, the code of the first refused line (11 to 28, 71), 29, 30, 51,
+ * The call refuses with the first of these that applies: 31 to 34, the code of the first refused line (11 to 15, 21 to 28, 71), 29, 30, 51,
  * 67, 43, 68, 1.
  *
  *     shamir_answer answer = shamir_resplit("3of5", 4, lines, lines_bytes, random, random_bytes, mnemonics, sizeof mnemonics);
