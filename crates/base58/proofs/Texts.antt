@@ -1,5 +1,6 @@
 -- What is written is read, and what is read is written so.
-use Rattle.std.proofs.Common.{◌≡◌, ℕ, ◌+◌, ◌-◌, ◌<◌, ◌≤◌, Bool, true, false, cond, nat_le, List, ◌++◌, All, length, map, take, drop, get_or, refl, sym, ap, ◌∙◌, subst, inl, inr, arith, length-append}
+use Rattle.std.proofs.Common.{◌≡◌, ℕ, ◌+◌, ◌-◌, ◌<◌, ◌≤◌, Bool, true, false, cond, nat_le, List, ◌++◌, All, length, map, take, drop, get_or, refl}
+use Rattle.std.proofs.Common.{sym, ap, ◌∙◌, subst, inl, inr, arith, length-append}
 use Rattle.std.specs.Prelude.{Option, Some, None}
 use Rattle.std.proofs.lemmas.Bool.{ltb-false, lt-ltb, le-ltb, lt-leb, cases_lt}
 use Rattle.std.proofs.lemmas.Slice.Eq.{bytes_eq-Decides}
@@ -12,7 +13,7 @@ use Rattle.base58.specs.Base58.{letter, digit_of, converted, decoded, base58, ch
 use Rattle.base58.specs.Reading.{first_bad_letter, payload_of, checksum_of, refusal_of, IsRead, IsText}
 use Rattle.base58.specs.declared.reading.Base58Error.{Base58Error}
 use Rattle.base58.specs.declared.reading.Base58Error.TheVariants.{BadLength}
-use Rattle.base58.proofs.Alphabet.{digits-letters, letters-digits, are_letters, digits-below}
+use Rattle.base58.proofs.Alphabet.{digits-letters, letters-digits, digits-below}
 use Rattle.base58.proofs.Converted.{there_and_back, converted-below, converted-length}
 
 -- ---- a checksum is four bytes
@@ -28,7 +29,7 @@ checksum-length payload = length-take-le 4 (double_sha256 payload) (omega (arith
 encoded : (text : List ℕ) → length text ≤ first_bad_letter text → base58 (decoded text) ≡ text
 encoded text h =
     ap (map letter) (there_and_back 58 256 (map digit_of text) (omega arith) (omega arith) (digits-below text h))
-    ∙ letters-digits text (are_letters text h)
+    ∙ letters-digits text h
 
 -- a text of more letters writes more than 82 bytes
 long : (text : List ℕ) → length text ≤ first_bad_letter text → 112 < length text → 82 < length (decoded text)

@@ -2,10 +2,10 @@
 use Rattle.std.proofs.Common.{◌≡◌, ℕ, ◌+◌, ◌*◌, ◌/◌, ◌%◌, ◌^◌, ◌<◌, ◌≤◌, List, All, length, ap, ap₂, ◌∙◌, subst, arith}
 use Rattle.std.proofs.lemmas.Nat.{pow-add, pow_pos, shl-shr, div-add-mod', div_below}
 use Rattle.std.proofs.Math.Nat.{mod-eq_of_lt, mul-mod_left}
-use Rattle.bech32.specs.Digits.{digits, number_of}
+use Rattle.s39_lists.specs.Digits.{digits, number_of}
 use Rattle.bech32.specs.Groups.{IsGroup, IsByte, group_count, padding, groups}
 use Rattle.bech32.specs.Reading.{whole_bytes, left_over, bytes_of, padding_of}
-use Rattle.bech32.proofs.Digits.{length-digits, digits-below, number-digits, digits-number, number-below}
+use Rattle.s39_lists.proofs.Digits.{length-digits, digits-below, number-digits, digits-number, number-below}
 
 row : (a b c : ℕ) → a < b → (a + 1) * c ≤ b * c
 row a b c l = grind arith

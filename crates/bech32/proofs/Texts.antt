@@ -1,5 +1,7 @@
 -- What is written is read, and what is read is written so.
-use Rattle.std.proofs.Common.{◌≡◌, ℕ, suc, ◌+◌, ◌-◌, ◌/◌, ◌^◌, ◌<◌, ◌≤◌, Bool, true, false, not, cond, ◌||◌, nat_eq, nat_le, nat_lt, List, [], ◌∷◌, ◌++◌, All, length, map, take, drop, get_or, refl, sym, ap, ap₂, ◌∙◌, subst, inl, inr, arith, append_assoc, length-append, ◌⊎◌}
+use Rattle.std.proofs.Common.{◌≡◌, ℕ, suc, ◌+◌, ◌-◌, ◌/◌, ◌^◌, ◌<◌, ◌≤◌, Bool, true, false, not, cond, ◌||◌, nat_eq, nat_le, nat_lt, List, [], ◌∷◌}
+use Rattle.std.proofs.Common.{◌++◌, All, length, map, take, drop, get_or, refl, sym, ap, ap₂, ◌∙◌, subst, inl, inr, arith, append_assoc}
+use Rattle.std.proofs.Common.{length-append, ◌⊎◌}
 use Rattle.std.specs.Prelude.{Option, Some, None}
 use Rattle.std.specs.Str.{bytes_eq, str_to_ascii_uppercase}
 use Rattle.std.proofs.lemmas.Bool.{ltb-false, lt-ltb, le-ltb, lt-leb, eqb-true, eq-eqb, ne_eqb, cases_lt, cases_eq, or_cases}
@@ -7,15 +9,17 @@ use Rattle.std.proofs.lemmas.Slice.Eq.{bytes_eq-Decides}
 use Rattle.std.proofs.lemmas.List.{length-map, length-drop, take-append-drop, take_at, drop_at, drop-take, get_or-map}
 use Rattle.std.proofs.lemmas.List.Sums.{position_or_len_is}
 use Rattle.std.proofs.lemmas.List.Elements.{All-append, All-cons, All-get_or, All-drop, All-take}
-use Rattle.bech32.specs.Digits.{number_of}
+use Rattle.s39_lists.specs.Digits.{number_of}
 use Rattle.bech32.specs.Groups.{IsGroup, group_count, groups}
 use Rattle.bech32.specs.Segwit.{letter, group_of, polymod, expanded, checksum, final_register}
-use Rattle.bech32.specs.Reading.{lower, letters_behind, groups_behind, first_bad_letter, version_of, program_groups, whole_bytes, left_over, bytes_of, padding_of, program_refusal, groups_refusal, letters_refusal, has_one_case, has_prefix, refusal_of, IsProgram, IsAddress, IsRead}
+use Rattle.bech32.specs.Reading.{lower, letters_behind, groups_behind, first_bad_letter, version_of, program_groups, whole_bytes, left_over}
+use Rattle.bech32.specs.Reading.{bytes_of, padding_of, program_refusal, groups_refusal, letters_refusal, has_one_case, has_prefix, refusal_of}
+use Rattle.bech32.specs.Reading.{IsProgram, IsAddress, IsRead}
 use Rattle.bech32.specs.declared.reading.AddressError.{AddressError}
 use Rattle.bech32.specs.declared.reading.AddressError.TheVariants.{BadProgram}
-use Rattle.bech32.proofs.Alphabet.{groups-letters, letters-groups, are_letters}
+use Rattle.bech32.proofs.Alphabet.{groups-letters, letters-groups}
 use Rattle.bech32.proofs.Alphabet as A
-use Rattle.bech32.proofs.Digits.{length-digits, digits-below}
+use Rattle.s39_lists.proofs.Digits.{length-digits, digits-below}
 use Rattle.bech32.proofs.ProgramGroups.{length-groups, groups-below, whole-groups, left-groups, bytes_back, padding_zero, groups_back}
 use Rattle.bech32.proofs.Remainders.{valid, only}
 
@@ -181,7 +185,7 @@ read_as prefix text none =
     let whole : gs ≡ v ∷ (groups p ++ checksum (final_register v) prefix (v ∷ groups p)) =
     split ∙ ap₂ (λ (xs ys : List ℕ). v ∷ (xs ++ ys)) (sym back) (sum ∙ ap (λ xs. checksum (final_register v) prefix (v ∷ xs)) (sym back)) in
     let front : take k (lower text) ≡ prefix ++ 49 ∷ [] = (bytes_eq-Decides (take k (lower text)) (prefix ++ 49 ∷ [])).0 all.1.1.0 in
-    let letters : L ≡ map letter gs = sym (letters-groups L (are_letters L behind.0)) in
+    let letters : L ≡ map letter gs = sym (letters-groups L behind.0) in
     record {
       is_program = is.0;
       lower_is =

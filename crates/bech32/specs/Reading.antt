@@ -1,8 +1,9 @@
 -- What the text of an address is of, or why it is of nothing (BIP-173, BIP-350; BIP-141 for witness programs).
-use Rattle.std.specs.Prelude.{◌≡◌, ℕ, ◌+◌, ◌-◌, ◌*◌, ◌/◌, ◌%◌, ◌^◌, ◌≤◌, ◌⊎◌, Bool, not, ◌||◌, List, [], ◌∷◌, ◌++◌, All, Option, Some, None, length, map, take, drop, slice_index, nat_eq, nat_le, nat_lt, if◌then◌else◌}
+use Rattle.std.specs.Prelude.{◌≡◌, ℕ, ◌+◌, ◌-◌, ◌*◌, ◌/◌, ◌%◌, ◌^◌, ◌≤◌, ◌⊎◌, Bool, not, ◌||◌, List, [], ◌∷◌, ◌++◌, All, Option, Some, None, length}
+use Rattle.std.specs.Prelude.{map, take, drop, slice_index, nat_eq, nat_le, nat_lt, if◌then◌else◌}
 use Rattle.std.specs.List.{position_or_len}
 use Rattle.std.specs.Str.{bytes_eq, str_to_ascii_lowercase, str_to_ascii_uppercase}
-use Rattle.bech32.specs.Digits.{digits, number_of}
+use Rattle.s39_lists.specs.Digits.{digits, number_of}
 use Rattle.bech32.specs.Groups.{IsByte}
 use Rattle.bech32.specs.Segwit.{group_of, polymod, expanded, final_register, address}
 use Rattle.bech32.specs.declared.reading.AddressError.{AddressError}

@@ -1,7 +1,7 @@
 -- The text of a witness program (BIP-173, BIP-350).
 use Rattle.std.specs.Prelude.{ℕ, ◌*◌, ◌/◌, ◌%◌, ◌^◌, List, [], ◌∷◌, ◌++◌, map, fold, codes, slice_index, bit_xor, if◌then◌else◌, nat_eq}
 use Rattle.std.specs.List.{position_or_len}
-use Rattle.bech32.specs.Digits.{digits}
+use Rattle.s39_lists.specs.Digits.{digits}
 use Rattle.bech32.specs.Groups.{groups}
 
 -- the constant at this bit of the five that leave the register

@@ -1,7 +1,7 @@
 //! Packing bits into digits of so many bits each.
 ghost use Rattle.std.specs.Prelude.{◌≡◌, ◌+◌, ◌*◌, ◌/◌, ◌%◌, ◌^◌, ◌<◌, ◌≤◌};
-ghost use Rattle.bech32.specs.Digits.{digits};
-ghost use Rattle.bech32.specs.Written.{no_bits, bits_with};
+ghost use Rattle.s39_lists.specs.Digits.{digits};
+ghost use Rattle.s39_lists.specs.Written.{no_bits, bits_with};
 
 use arrayvec::ArrayVec;
 use std::marker::Model;
@@ -21,8 +21,8 @@ pub(crate) struct BitWriter<const SIZE: usize> {
 
 impl<const SIZE: usize> Model for BitWriter<SIZE> {
     ghost use Rattle.std.specs.Prelude.{ℕ, ◌+◌, ◌*◌, ◌^◌, ◌<◌, ◌≤◌, All, length};
-    ghost use Rattle.bech32.specs.Digits.{number_of};
-    ghost use Rattle.bech32.specs.Written.{Bits, bits_with};
+    ghost use Rattle.s39_lists.specs.Digits.{number_of};
+    ghost use Rattle.s39_lists.specs.Written.{Bits, bits_with};
 
     ghost Value = { Bits };
 

@@ -1,10 +1,11 @@
 //! Reading an address back.
 ghost use Rattle.std.specs.Prelude.{◌≡◌, ◌+◌, ◌-◌, ◌*◌, ◌/◌, ◌%◌, ◌^◌, ◌<◌, ◌≤◌, ◌++◌, ◌∷◌, [], length, map, take, All, MatchResult, Some, None};
 ghost use Rattle.std.specs.Str.{bytes_eq, str_to_ascii_lowercase, str_to_ascii_uppercase};
-ghost use Rattle.bech32.specs.Digits.{number_of};
+ghost use Rattle.s39_lists.specs.Digits.{number_of};
 ghost use Rattle.bech32.specs.Groups.{IsGroup};
 ghost use Rattle.bech32.specs.Segwit.{group_of};
-ghost use Rattle.bech32.specs.Reading.{has_one_case, has_prefix, bytes_of, letters_behind, first_bad_letter, version_of, groups_behind, program_groups, program_refusal, groups_refusal, letters_refusal, refusal_of};
+ghost use Rattle.bech32.specs.Reading.{has_one_case, has_prefix, bytes_of, letters_behind, first_bad_letter, version_of, groups_behind};
+ghost use Rattle.bech32.specs.Reading.{program_groups, program_refusal, groups_refusal, letters_refusal, refusal_of};
 
 use crate::address::{LETTERS, MAX_ADDRESS, final_register};
 use crate::bit_writer::{BitWriter, MAX_DIGITS};

@@ -9,3 +9,6 @@ pub mod Pushes
 pub mod Loops
 pub mod Splits
 pub mod Each
+pub mod Digits
+pub mod Written
+pub mod Alphabets

@@ -1,1 +1,3 @@
 pub mod Each
+pub mod Digits
+pub mod Written

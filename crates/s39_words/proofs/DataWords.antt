@@ -10,13 +10,13 @@ use Rattle.std.proofs.lemmas.List.{length-append, length-take-le, length-drop, t
 use Rattle.std.proofs.lemmas.List.Elements.{All-take, All-drop, All-tail}
 use Rattle.s39_words.specs.Layout.{IsIndex}
 use Rattle.s39_words.specs.declared.share.ShareFields.{ShareFields}
-use Rattle.s39_words.specs.Digits.{digits, number_of}
+use Rattle.s39_lists.specs.Digits.{digits, number_of}
 use Rattle.s39_words.specs.Share.{IsValue, IsShare, flag_bit, header_number, value_words, with_field, share_number, data_words}
 use Rattle.s39_words.specs.Reading.{IsWordCount, padding_length, number_at, flag_of, padding_of, stored_group_threshold, stored_group_count}
-use Rattle.s39_words.specs.Written.{Bits, bits_with}
+use Rattle.s39_lists.specs.Written.{Bits, bits_with}
 use Rattle.s39_words.specs.Reading.{byte_count, share_value_at, fields_at}
-use Rattle.s39_words.proofs.Digits.{length-digits, digits-below, number-below, number-digits, digits-number, digit_at, low_field}
-use Rattle.s39_words.proofs.Digits.{number_at-part, number_at-inner, number-append}
+use Rattle.s39_lists.proofs.Digits.{length-digits, digits-below, number-append, number-below, number-digits, digits-number}
+use Rattle.s39_words.proofs.Digits.{digit_at, low_field, number_at-part, number_at-inner}
 
 pub data_words-below : (f : ShareFields) → All IsIndex (data_words f)
 data_words-below f = digits-below 10 (4 + value_words (length f.value.items)) (share_number f)

@@ -12,7 +12,6 @@ pub mod Registers
 pub mod Digits
 pub mod DataWords
 pub mod TwoWords
-pub mod Written
 pub mod OneReading
 pub mod Listed
 pub mod Joined

@@ -1,5 +1,4 @@
 pub mod Layout
-pub mod Digits
 pub mod Share
 pub mod Checksum
 pub mod Division
@@ -9,6 +8,5 @@ pub mod Rows
 pub mod Spelling
 pub mod Reading
 pub mod Mistyping
-pub mod Written
 pub mod Printing
 pub mod FirstWord

@@ -10,7 +10,7 @@ use Rattle.s39_words.specs.declared.word_error.WordError.TheVariants.{UnknownWor
 use Rattle.s39_words.specs.Layout.{word_bits, count_bits, byte_pair_bits, header_length, most_padding, checksum_length}
 use Rattle.s39_words.specs.Layout.{flag_place, exponent_place, group_index_place, group_threshold_place, group_count_place}
 use Rattle.s39_words.specs.Layout.{member_index_place, member_threshold_place}
-use Rattle.s39_words.specs.Digits.{digits, number_of}
+use Rattle.s39_lists.specs.Digits.{digits, number_of}
 use Rattle.s39_words.specs.Division.{has_valid_checksum}
 use Rattle.s39_words.specs.WordList.{index_of}
 use Rattle.s39_words.specs.Spelling.{words_of}

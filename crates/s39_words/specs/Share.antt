@@ -4,7 +4,7 @@ use Rattle.s39_kdf.specs.Bytes.{AreBytes}
 use Rattle.s39_kdf.specs.Limits.{IsSecretLength, id_bits, exponent_bits}
 use Rattle.s39_words.specs.declared.share.ShareFields.{ShareFields}
 use Rattle.s39_words.specs.Layout.{count_bits, header_length, most_groups, most_members, word_bits}
-use Rattle.s39_words.specs.Digits.{digits, number_of}
+use Rattle.s39_lists.specs.Digits.{digits, number_of}
 
 -- these are bytes, as many as a master secret may have
 pub record IsValue (value : List ℕ) : Type 0 where

@@ -1,7 +1,7 @@
 //! Packing binary digits into words of ten digits.
 ghost use Rattle.std.specs.Prelude.{◌≡◌, ◌+◌, ◌*◌, ◌/◌, ◌%◌, ◌^◌, ◌<◌, ◌≤◌};
-ghost use Rattle.s39_words.specs.Digits.{digits};
-ghost use Rattle.s39_words.specs.Written.{no_bits, bits_with};
+ghost use Rattle.s39_lists.specs.Digits.{digits};
+ghost use Rattle.s39_lists.specs.Written.{no_bits, bits_with};
 
 use crate::size::{ID_BITS, MAX_DATA_WORDS, WORD_BITS};
 use arrayvec::ArrayVec;
@@ -19,8 +19,8 @@ pub(crate) struct WordWriter {
 impl Model for WordWriter {
     ghost use Rattle.std.specs.Prelude.{ℕ, ◌+◌, ◌*◌, ◌^◌, ◌<◌, All, length};
     ghost use Rattle.s39_words.specs.Layout.{IsIndex, word_bits};
-    ghost use Rattle.s39_words.specs.Digits.{number_of};
-    ghost use Rattle.s39_words.specs.Written.{Bits, bits_with};
+    ghost use Rattle.s39_lists.specs.Digits.{number_of};
+    ghost use Rattle.s39_lists.specs.Written.{Bits, bits_with};
 
     ghost Value = { Bits };
 

@@ -1,6 +1,6 @@
 use Rattle.std.proofs.Common.{◌≡◌, ◌+◌, ◌*◌, ℕ, get_or, ap, ap₂, sym, ◌∙◌, arith}
 use Rattle.std.proofs.lemmas.Int.Digits.{number_more}
-use Rattle.bech32.specs.Written.{Bits, bits_with}
+use Rattle.s39_lists.specs.Written.{Bits, bits_with}
 use Rattle.bech32.proofs.reading.bits_of.Goals as goal
 
 pub loop-group-preserved : goal.loop-group-preserved

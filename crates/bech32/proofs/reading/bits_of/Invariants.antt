@@ -1,5 +1,5 @@
 use Rattle.std.proofs.Common.{◌≡◌, ◌*◌, take}
-use Rattle.bech32.specs.Digits.{number_of}
+use Rattle.s39_lists.specs.Digits.{number_of}
 use Rattle.bech32.proofs.reading.bits_of.Given as goal
 
 abbrev pub invariant-loop-group : goal.invariant-loop-group

@@ -3,8 +3,8 @@ use Rattle.std.proofs.lemmas.List.Elements.{All-same}
 use Rattle.s39_words.specs.Layout.{IsIndex}
 use Rattle.s39_words.specs.declared.share.ShareFields.{ShareFields}
 use Rattle.s39_words.specs.Share.{header_number, value_words, data_words}
-use Rattle.s39_words.specs.Digits.{digits}
-use Rattle.s39_words.specs.Written.{Bits, bits_with}
+use Rattle.s39_lists.specs.Digits.{digits}
+use Rattle.s39_lists.specs.Written.{Bits, bits_with}
 use Rattle.s39_words.proofs.DataWords.{written_more, written-all, data_words-below}
 use Rattle.s39_words.proofs.packing.data_words_of.Goals as goal
 

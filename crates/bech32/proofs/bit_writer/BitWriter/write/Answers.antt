@@ -1,8 +1,8 @@
 use Rattle.std.proofs.Common.{◌≡◌, ◌+◌, ◌-◌, ◌*◌, ◌/◌, ◌%◌, ◌^◌, ◌<◌, ◌≤◌, [], ◌∷◌, ◌++◌, length, sym, ap, ◌∙◌, subst, arith, bit_or, bit_and}
 use Rattle.std.proofs.Math.Nat.{pow-le-pow_right}
 use Rattle.std.proofs.lemmas.Nat.{shr_below}
-use Rattle.bech32.specs.Written.{Bits, bits_with}
-use Rattle.bech32.proofs.Written.{AreBits, written, shifted-is, digit_more, masked-is, has_room}
+use Rattle.s39_lists.specs.Written.{Bits, bits_with}
+use Rattle.s39_lists.proofs.Written.{AreBits, written, shifted-is, digit_more, masked-is, has_room}
 use Rattle.bech32.proofs.bit_writer.BitWriter.write.Goals as goal
 
 pub loop-self-init : goal.loop-self-init
@@ -18,7 +18,7 @@ loop-self-init g c =
     } in
     let rest : bit_or (w.rest * 2 ^ width % 4294967296) c.from.result ≡ w.rest * 2 ^ width + n =
     ap (λ m. bit_or (w.rest * 2 ^ width % 4294967296) m) c.from.ensures
-    ∙ shifted-is w.rest width n w.held c.self.invariant.1 c.requires.bits (omega (arith, c.self.invariant.0, c.requires.size)) c.requires.width in
+    ∙ shifted-is w.rest width n w.held c.self.invariant.1 c.requires.bits (omega (arith, c.self.invariant.0, c.requires.size, c.requires.width)) in
     record {
       bits =
           subst (λ r. AreBits g.row.SIZE w.digits.items (w.held + width) r (bits_with c.args.self.now width n)) (sym rest)

@@ -1,6 +1,6 @@
 use Rattle.std.proofs.Common.{◌≤◌}
-use Rattle.bech32.specs.Written.{bits_with}
-use Rattle.bech32.proofs.Written.{AreBits}
+use Rattle.s39_lists.specs.Written.{bits_with}
+use Rattle.s39_lists.proofs.Written.{AreBits}
 use Rattle.bech32.proofs.bit_writer.BitWriter.write.Given as goal
 
 abbrev pub invariant-loop-self : goal.invariant-loop-self
