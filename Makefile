@@ -50,7 +50,8 @@
 #   make release     writes dist/, which holds what needs no build: the page, the program and the library as plain C, and as modules for
 #                    JavaScript
 #   make check-dist  makes the files of dist/ anew, and compares them byte for byte
-#   make check-alone  runs the commands of README.md, and uses the page and the packages, where the kit, the repository and the network are hidden. It needs root's rights
+#   make check-alone  runs the commands of README.md, and uses the page and the packages, where the kit, the repository and the
+#                    network are hidden. It needs root's rights
 #   make dist        builds and packs all that a release gives into the folder shamir-VERSION: the committed sources, the page, dist/,
 #                    the packages, their sha256, and notes. The same commit and tools give the same bytes
 #   make clean       removes what these targets build, and what checks kept in crates/*/out
