@@ -20,12 +20,12 @@ pub enum Chain {
     Change,
 }
 
-/// There is no key or address at a path: a number isn't below the order of the group, or is 0, or an output key doesn't exist.
-/// A random seed meets this once in about 2^127.
+/// There is no key or address at a path: a key on it has no such child (BIP-32), the public key is infinity, or a P2TR address
+/// has no output key (BIP-341). With a random seed, each step meets this once in about 2^127.
 #[derive(Clone, Copy, Debug, PartialEq, Eq)]
 pub struct NoKey;
 
-/// Returns an account's key, with its place below the master key.
+/// Returns an account's key, with its place below the master key, or `NoKey` if a key on the path has no such child.
 ///
 /// ```rust
 /// let first = found(account(&master, Kind::P2wpkh, 0))?;
@@ -45,7 +45,8 @@ pub fn account(master: &ExtendedKey, kind: Kind, number: u32) -> Result<Node, No
     }
 }
 
-/// Returns the key below which an account's addresses are. It takes two multiplications, and each address one more.
+/// Returns the key below which an account's addresses are, or `NoKey` if the account has no such child. It takes two
+/// multiplications, and each address one more.
 pub fn chain_key(account: &ExtendedKey, chain: Chain) -> Result<Parent, NoKey>
     ensures { result ≡ found (chain_key account.now chain) }
 {
@@ -55,7 +56,8 @@ pub fn chain_key(account: &ExtendedKey, chain: Chain) -> Result<Parent, NoKey>
     }
 }
 
-/// Returns the address of this index on a chain. It takes one multiplication, and for P2TR two.
+/// Returns the address of this index on a chain, or `NoKey` if the chain has no such child, or its public key has no address of
+/// this kind. It takes one multiplication, and for P2TR two.
 pub fn address(kind: Kind, chain: &Parent, index: u32) -> Result<Address, NoKey>
     requires { index < HARDENED }
     ensures { result ≡ found (address kind chain.now index) }

@@ -33,19 +33,21 @@ pub enum Shown {
 /// Why a text is nothing that a wallet shows.
 #[derive(Clone, Copy, Debug, PartialEq, Eq)]
 pub enum ShownError {
-    /// The character at this position is none of the form's letters.
+    /// The byte at this position, counted from 0, is none of the form's letters.
     BadLetter { position: usize },
     /// The text is too short or too long for its form.
     BadLength,
     /// The text of a witness program has letters in upper case and in lower case.
     MixedCase,
-    /// The checksum isn't that of the other characters. An address of Ethereum has it in its capitals.
+    /// The checksum isn't that of the other characters. Ethereum has it in its capitals: an address whose capitals aren't those of
+    /// ERC-55 is refused, also one in lower case.
     BadChecksum,
-    /// The text is of a test network.
+    /// The text is of a test network: an address, or a `tpub`, a `upub` or a `vpub`.
     OtherNetwork,
-    /// The text is of no kind that is known here: another version, length or witness program.
+    /// The text is of no kind that is known here: another version, length or witness program. So are a private key in WIF and the
+    /// extended keys that SLIP-132 has for several signers, also private ones.
     UnknownKind,
-    /// The text is an extended private key.
+    /// The text is an extended private key: an `xprv`, a `yprv` or a `zprv`, or a `tprv`, a `uprv` or a `vprv`.
     PrivateKey,
     /// The extended public key has no point of the curve, or is a master key with a parent or a number.
     BadKey,
