@@ -75,7 +75,8 @@ pub fn alike_endings_have_one_status<R, W>()
         → EndsAlike remaining Ended.NoMemory other → other ≡ Ended.NoMemory }
 {}
 
-/// What is said of a file's value names a file of the secret or of the passphrase, and no other.
+/// If it is said that what a file holds is no value (status 2), the name that is said is that of the secret's file or of the
+/// passphrase's, and no other. Of a file that isn't read (status 3), no clause says whose name it is.
 pub fn values_are_of_two_files()
     ensures { (files : Texts) (name : Text) → IsNamedIn files name
         → text_in files.secret ≢ Some name → text_in files.passphrase ≡ Some name }
