@@ -46,8 +46,10 @@ def compiled(compiler: str, *words: str) -> str:
 
 
 def built(target: Target, folder: str) -> List[str]:
-    """Builds the program for a target, and returns the words that run it."""
-    return builds.words_of(target, compiled(target.compiler, *target.words), folder)
+    """Builds the program for a target, and returns the words that run it. It ran once then, since wine tells of its first start in a folder."""
+    words = builds.words_of(target, compiled(target.compiler, *target.words), folder)
+    run([*words, "--version"])
+    return words
 
 
 def agrees(target: Target, lines: int, folder: str) -> str:
