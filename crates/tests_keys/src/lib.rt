@@ -2,8 +2,6 @@
 #![tactic(auto)]
 
 #[cfg(test)]
-mod accounts;
-#[cfg(test)]
 mod base58check;
 #[cfg(test)]
 mod curve;
@@ -17,3 +15,5 @@ mod extended_keys;
 mod segwit;
 #[cfg(test)]
 mod shown;
+#[cfg(test)]
+mod wallet_accounts;
